@@ -1,0 +1,4 @@
+mod descent;
+
+pub use descent::Misplaced;
+pub use descent::placed;

@@ -1,0 +1,13 @@
+pub mod Options
+pub mod Limits
+pub mod Parts
+pub mod Standing
+pub mod Indexed
+pub mod Counted
+pub mod Steps
+pub mod Declared
+pub mod There
+pub mod Bounds
+pub mod Lists
+pub mod Read
+pub mod Skip

@@ -1,0 +1,26 @@
+mod arms;
+mod by_kind;
+mod declared;
+mod fault;
+mod shape;
+mod standing;
+mod types;
+
+pub use arms::arms_fit;
+pub use by_kind::leaf_rule;
+pub use by_kind::same;
+pub use declared::Signature;
+pub use declared::fields;
+pub use declared::function_types;
+pub use declared::rule;
+pub use fault::Broken;
+pub use fault::TypeFault;
+pub use shape::Shape;
+pub use shape::enum_of;
+pub use shape::shape_of;
+pub use standing::Arm;
+pub use standing::arm_at;
+pub use standing::closes_at;
+pub use standing::head_at;
+pub use standing::type_at;
+pub use types::Types;

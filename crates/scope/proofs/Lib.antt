@@ -1,0 +1,2 @@
+pub mod Entries
+mod Backwards

@@ -1,0 +1,4 @@
+mod functions;
+mod walk;
+
+pub use functions::typed;

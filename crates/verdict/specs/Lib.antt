@@ -1,0 +1,5 @@
+pub mod Order
+pub mod Formed
+pub mod Verdict
+pub mod Claims
+pub mod Cases
