@@ -1,5 +1,5 @@
 // The types of BATTERY values: two are equal when their kinds and enum numbers are.
-#[derive(Clone, Copy, Debug, PartialEq)]
+#[derive(Clone, Copy, PartialEq)]
 pub enum Ty {
     Unit,
     Number,
@@ -9,7 +9,7 @@ pub enum Ty {
 }
 
 // The operators that take two numbers and give a number.
-#[derive(Clone, Copy, Debug, PartialEq)]
+#[derive(Clone, Copy)]
 pub enum Arith {
     Add,
     Mul,

@@ -11,7 +11,7 @@ use table::Head;
 use table::Token;
 
 // A record that cannot follow those before it, or the records' end, and the innermost group open there.
-#[derive(Clone, Copy, Debug, PartialEq)]
+#[derive(Clone, Copy)]
 pub struct Misplaced {
     pub record: usize,
     pub group: Option<usize>,

@@ -7,7 +7,7 @@ ghost use Rattle.image.specs.Bytes.{countOf, textOf};
 ghost use Rattle.image.specs.Header.{headerFault, lettered as hasLetters};
 
 // Why the first nine bytes or the length turn an image down, in the order in which they are tested.
-#[derive(Clone, Copy, Debug, PartialEq)]
+#[derive(Clone, Copy)]
 pub enum ImageFault {
     Short,
     Letters,

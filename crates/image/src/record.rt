@@ -4,7 +4,7 @@ ghost use Rattle.std.specs.declared.option.Option.the-variants.{Some};
 ghost use Rattle.image.specs.Bytes.{recordOf};
 
 // Eight bytes of an image, taken apart.
-#[derive(Clone, Copy, Debug, PartialEq)]
+#[derive(Clone, Copy)]
 pub struct Record {
     pub kind: u8,
     pub a: u8,

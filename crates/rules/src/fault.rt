@@ -1,5 +1,5 @@
 // Which rule of typing a record breaks.
-#[derive(Clone, Copy, Debug, PartialEq)]
+#[derive(Clone, Copy)]
 pub enum Broken {
     Unbound,
     Mistyped,
@@ -7,7 +7,7 @@ pub enum Broken {
     Arms,
 }
 
-#[derive(Clone, Copy, Debug, PartialEq)]
+#[derive(Clone, Copy)]
 pub struct TypeFault {
     pub broken: Broken,
     pub record: usize,

@@ -21,26 +21,26 @@ use Rattle.verdict.specs.Formed.{allThere, Formed, FormedAll, FormedArms, Form
 use Rattle.numbering.proofs.Options.{Through, through, Some≡, never}
 
 -- a check that went through
-record Passed {A B : Type 0} (o : Checked A) (f : A → Checked B) (b : B) : Type 0 where
-  mid : A
-  got : o ≡ has mid
-  gave : f mid ≡ has b
+pub record Passed {A B : Type 0} (o : Checked A) (f : A → Checked B) (b : B) : Type 0 where
+  pub mid : A
+  pub got : o ≡ has mid
+  pub gave : f mid ≡ has b
 
 pub faulty : {A P : Type 0} {n p : ℕ} {a : A} → _≡_ {A = Checked A} (fault n p) (has a) → P
 faulty e = let z : _≡_ {A = ℕ} 0 1 = cc in absurd (omega arith)
 
-has≡ : {A : Type 0} {a b : A} → has a ≡ has b → a ≡ b
+pub has≡ : {A : Type 0} {a b : A} → has a ≡ has b → a ≡ b
 has≡ e = cc
 
-passed : {A B : Type 0} (o : Checked A) (f : A → Checked B) (b : B) → (o ▹ f) ≡ has b → Passed o f b
+pub passed : {A B : Type 0} (o : Checked A) (f : A → Checked B) (b : B) → (o ▹ f) ≡ has b → Passed o f b
 passed (has a) f b e = record { mid = a; got = refl; gave = e }
 passed (fault n p) f b e = faulty e
 
-rule-true : (n p : ℕ) (b : Bool) (u : Unit {0}) → rule n p b ≡ has u → b ≡ true
+pub rule-true : (n p : ℕ) (b : Bool) (u : Unit {0}) → rule n p b ≡ has u → b ≡ true
 rule-true n p true u e = refl
 rule-true n p false u e = faulty e
 
-was-there : {A : Type 0} (n p : ℕ) (o : Option A) (a : A) → there n p o ≡ has a → o ≡ Some a
+pub was-there : {A : Type 0} (n p : ℕ) (o : Option A) (a : A) → there n p o ≡ has a → o ≡ Some a
 was-there n p None a e = faulty e
 was-there n p (Some b) a e = ap {B = Option _} Some (has≡ e)
 
@@ -58,15 +58,15 @@ told boolean = refl
 told text = refl
 told (enum k) = refl
 
-same : (σ τ : Ty) → sameTy σ τ ≡ true → σ ≡ τ
+pub same : (σ τ : Ty) → sameTy σ τ ≡ true → σ ≡ τ
 same σ τ e =
     let b = both (eqb (kindOf σ) (kindOf τ)) (eqb (enumNumber σ) (enumNumber τ)) e in
     sym (told σ) ∙ ap₂ typeNamed (eqb-true _ _ (b .0)) (eqb-true _ _ (b .1)) ∙ told τ
 
-same-self : (τ : Ty) → sameTy τ τ ≡ true
+pub same-self : (τ : Ty) → sameTy τ τ ≡ true
 same-self τ = rw (eq-eqb (kindOf τ) _ refl) (eq-eqb (enumNumber τ) _ refl)
 
-same-all : (σs τs : List Ty) → sameTys σs τs ≡ true → σs ≡ τs
+pub same-all : (σs τs : List Ty) → sameTys σs τs ≡ true → σs ≡ τs
 same-all [] [] e = refl
 same-all [] (τ ∷ τs) e = false≢true e
 same-all (σ ∷ σs) [] e = false≢true e
@@ -76,11 +76,11 @@ same-all (σ ∷ σs) (τ ∷ τs) e =
     let q = same-all σs τs (b .1) in
     cc
 
-same-all-self : (τs : List Ty) → sameTys τs τs ≡ true
+pub same-all-self : (τs : List Ty) → sameTys τs τs ≡ true
 same-all-self [] = refl
 same-all-self (τ ∷ τs) = rw (same-self τ) (same-all-self τs)
 
-all-once : (n : ℕ) (ms : Arms) → allOnce n ms ≡ true → (c : ℕ) → c < n → arms-of c ms ≡ 1
+pub all-once : (n : ℕ) (ms : Arms) → allOnce n ms ≡ true → (c : ℕ) → c < n → arms-of c ms ≡ 1
 all-once zero ms e c h = absurd (omega arith)
 all-once (suc n) ms e c h = let b = both (eqb (arms-of n ms) 1) (allOnce n ms) e in go (ℕ-discrete c n) (eqb-true _ _ (b .0)) (all-once n ms (b .1) c)
   where
@@ -88,15 +88,15 @@ all-once (suc n) ms e c h = let b = both (eqb (arms-of n ms) 1) (allOnce n ms) e
     go (yes s) q r = rw s q
     go (no s) q r = r (omega arith)
 
-once-all : (n : ℕ) (ms : Arms) → ((c : ℕ) → c < n → arms-of c ms ≡ 1) → allOnce n ms ≡ true
+pub once-all : (n : ℕ) (ms : Arms) → ((c : ℕ) → c < n → arms-of c ms ≡ 1) → allOnce n ms ≡ true
 once-all zero ms h = refl
 once-all (suc n) ms h = rw (eq-eqb (arms-of n ms) 1 (h n (omega arith))) (once-all n ms (λ c k. h c (omega arith)))
 
-data All (τ : Ty) : List Ty → Type 0 where
+pub data All (τ : Ty) : List Ty → Type 0 where
   a-nil : All τ []
   a-cons : {υ : Ty} {υs : List Ty} → υ ≡ τ → All τ υs → All τ (υ ∷ υs)
 
-all-as : (τ : Ty) (τs : List Ty) → allAs τ τs ≡ true → All τ τs
+pub all-as : (τ : Ty) (τs : List Ty) → allAs τ τs ≡ true → All τ τs
 all-as τ [] e = a-nil
 all-as τ (υ ∷ υs) e = let b = both (sameTy υ τ) (allAs τ υs) e in a-cons (same υ τ (b .0)) (all-as τ υs (b .1))
 
@@ -133,11 +133,11 @@ some-case p [] (arm q c n x e ms) C Γ τs τ h _ _ = false≢true h
 some-case p (c₁ ∷ E) (arm q c n x e ms) C Γ τs τ h _ _ = omega arith
 
 module _ (C : Card) where
-  as-type : {Γ : Scope Ty} {e : Expr} {σ τ : Ty} → sameTy σ τ ≡ true → C ∣ Γ ⊢ e ∶ σ → C ∣ Γ ⊢ e ∶ τ
+  pub as-type : {Γ : Scope Ty} {e : Expr} {σ τ : Ty} → sameTy σ τ ≡ true → C ∣ Γ ⊢ e ∶ σ → C ∣ Γ ⊢ e ∶ τ
   as-type {Γ = Γ} {e = e} h d = subst (λ υ. C ∣ Γ ⊢ e ∶ υ) (same _ _ h) d
 
   mutual
-    sound : (e : Expr) (Γ : Scope Ty) (τ : Ty) → Formed C e → check C Γ e ≡ has τ → C ∣ Γ ⊢ e ∶ τ
+    pub sound : (e : Expr) (Γ : Scope Ty) (τ : Ty) → Formed C e → check C Γ e ≡ has τ → C ∣ Γ ⊢ e ∶ τ
     sound (Unit′ p) Γ τ g e = rw (← (has≡ e)) t-unit
     sound (Num p k) Γ τ g e = rw (← (has≡ e)) (t-num g)
     sound (Bool′ p b) Γ τ g e = rw (← (has≡ e)) t-bool
@@ -212,7 +212,7 @@ module _ (C : Card) where
         let h = rule-true 11 p _ (s .mid) (s .got) in
         rw (← (has≡ (s .gave))) (t-exit (as-type h (sound a Γ (r .mid) (g .1) (r .got))))
 
-    sound-all : (es : Exprs) (Γ : Scope Ty) (τs : List Ty) → FormedAll C es → checkAll C Γ es ≡ has τs → C ∣ Γ ⊢⋆ es ∶ τs
+    pub sound-all : (es : Exprs) (Γ : Scope Ty) (τs : List Ty) → FormedAll C es → checkAll C Γ es ≡ has τs → C ∣ Γ ⊢⋆ es ∶ τs
     sound-all ∅ Γ τs g e = rw (← (has≡ e)) t-nil
     sound-all (a & es) Γ τs g e =
         let r = passed (check C Γ a) _ τs e in
@@ -232,7 +232,7 @@ module _ (C : Card) where
         go (Some υs) w f υ ts (a-cons k ks) typed rest = t-arm w (eqb-true _ _ f) (rw k at typed) (rest ks)
 
   mutual
-    complete : {Γ : Scope Ty} {e : Expr} {τ : Ty} → C ∣ Γ ⊢ e ∶ τ → check C Γ e ≡ has τ
+    pub complete : {Γ : Scope Ty} {e : Expr} {τ : Ty} → C ∣ Γ ⊢ e ∶ τ → check C Γ e ≡ has τ
     complete t-unit = refl
     complete (t-num h) = refl
     complete t-bool = refl
@@ -251,7 +251,7 @@ module _ (C : Card) where
         rw (complete a, h, once-all (length E) ms once, named ts, complete-arms ts) (copies-common p τ ms (once 0 n))
     complete (t-exit a) = rw (complete a)
 
-    complete-all : {Γ : Scope Ty} {es : Exprs} {τs : List Ty} → C ∣ Γ ⊢⋆ es ∶ τs → checkAll C Γ es ≡ has τs
+    pub complete-all : {Γ : Scope Ty} {es : Exprs} {τs : List Ty} → C ∣ Γ ⊢⋆ es ∶ τs → checkAll C Γ es ≡ has τs
     complete-all t-nil = refl
     complete-all (t-cons a es) = rw (complete a, complete-all es)
 

@@ -32,7 +32,7 @@ f12 = (omega arith, omega arith)
 f13 : OfTyping 13
 f13 = (omega arith, omega arith)
 
-abbrev Fine : {A : Type 0} → (A → Type 0) → Checked A → Type 0
+abbrev pub Fine : {A : Type 0} → (A → Type 0) → Checked A → Type 0
 Fine P (has a) = P a
 Fine P (fault n p) = OfTyping n
 
@@ -53,20 +53,20 @@ is-there n p None e = false≢true e
 is-there n p (Some a) e = refl
 
 module _ (C : Card) (F : FormedCard C) where
-  abbrev Known : Ty → Type 0
+  abbrev pub Known : Ty → Type 0
   Known τ = typeThere C τ ≡ true
 
-  abbrev KnownIn : Scope Ty → Type 0
+  abbrev pub KnownIn : Scope Ty → Type 0
   KnownIn Γ = (x : ℕ) (τ : Ty) → find Γ x ≡ Some τ → Known τ
 
-  known-more : (y : ℕ) (σ : Ty) (Γ : Scope Ty) → Known σ → KnownIn Γ → KnownIn ((y, σ) ∷ Γ)
+  pub known-more : (y : ℕ) (σ : Ty) (Γ : Scope Ty) → Known σ → KnownIn Γ → KnownIn ((y, σ) ∷ Γ)
   known-more y σ Γ h g x τ e = go (eqb x y) e
     where
       go : (b : Bool) → cond b (Some σ) (find Γ x) ≡ Some τ → Known τ
       go true e = subst Known (Some≡ e) h
       go false e = g x τ e
 
-  known-bind : (x : ℕ) (τs : List Ty) (Γ : Scope Ty) → allThere C τs → KnownIn Γ → KnownIn (bind x τs Γ)
+  pub known-bind : (x : ℕ) (τs : List Ty) (Γ : Scope Ty) → allThere C τs → KnownIn Γ → KnownIn (bind x τs Γ)
   known-bind x [] Γ h g = g
   known-bind x (τ ∷ τs) Γ h g = known-bind (suc x) τs ((x, τ) ∷ Γ) (h .1) (known-more x τ Γ (h .0) g)
 
@@ -92,7 +92,7 @@ module _ (C : Card) (F : FormedCard C) where
   Any τs = Unit {0}
 
   mutual
-    fine : (e : Expr) (Γ : Scope Ty) → KnownIn Γ → Formed C e → Fine Known (check C Γ e)
+    pub fine : (e : Expr) (Γ : Scope Ty) → KnownIn Γ → Formed C e → Fine Known (check C Γ e)
     fine (Unit′ p) Γ k g = refl
     fine (Num p n) Γ k g = refl
     fine (Bool′ p b) Γ k g = refl

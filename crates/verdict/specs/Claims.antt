@@ -13,6 +13,7 @@ use Rattle.table.specs.declared.token.Token.{Token}
 use Rattle.grammar.specs.Grammar.{Piece, Spells, Apart, Spelt, cardOf, misplaced, Misplaced}
 use Rattle.verdict.specs.Order.{has, fault, checkCard}
 use Rattle.verdict.specs.Formed.{FormedCard}
+use Rattle.verdict.specs.Breaks.{BreaksCard}
 use Rattle.verdict.specs.Verdict.{Verdict, accepted, refused, verdict, Form, Accepted, Refusal}
 
 -- the reader gives a card exactly where the words spell it
@@ -30,6 +31,10 @@ Misplaced-first = (t : List ℕ) (ws : List Token) → 0 < length ws → (r : �
 -- of a card that has the form, typing finds no fault exactly if every function is typed
 abbrev pub Faultless-if-typed : Type 0
 Faultless-if-typed = (image : List ℕ) (C : Card) → Form image C → (checkCard C ≡ has tt) ↔ TypedCard C
+
+-- and it finds the rule that is broken first, at its record
+abbrev pub First-broken : Type 0
+First-broken = (image : List ℕ) (C : Card) → Form image C → (n p : ℕ) → (checkCard C ≡ fault n p) ↔ BreaksCard C n p
 
 -- accepted exactly if the bytes have the form of Some typed card
 abbrev pub Accepts-exactly-the-typed : Type 0

@@ -16,7 +16,7 @@ abbrev pub allThere : Card → List Ty → Type 0
 allThere C [] = Unit {0}
 allThere C (τ ∷ τs) = (typeThere C τ ≡ true) × allThere C τs
 
--- a number fits its 32 bits, a text its 24 bytes, and what is named is there
+-- a number fits its 32 bits, a text its 24 bytes, what is named is there, and a MATCH has an arm
 abbrev mutual
   pub Formed : Card → Expr → Type 0
   Formed C (Unit′ p) = Unit {0}
@@ -33,7 +33,7 @@ abbrev mutual
   Formed C (Val p x a b) = Formed C a × Formed C b
   Formed C (Call p f es) = (isThere (at (C .fns) f) ≡ true) × FormedAll C es
   Formed C (Make p k c es) = (isThere (caseOf C k c) ≡ true) × FormedAll C es
-  Formed C (Match p a ms) = Formed C a × FormedArms C ms
+  Formed C (Match p a ms) = Formed C a × FormedArms C ms × ¬ (ms ≡ no-arm)
   Formed C (Exit p τ a) = (typeThere C τ ≡ true) × Formed C a
 
   pub FormedAll : Card → Exprs → Type 0

@@ -18,6 +18,7 @@ use Rattle.table.specs.Naming.{tokenOf, unknown, tokensOf}
 use Rattle.grammar.specs.Grammar.{Spelt, cardOf, misplaced, Misplaced}
 use Rattle.numbering.specs.Numbering.{none-seen, numbered, misnumbered, seenIn}
 use Rattle.verdict.specs.Order.{Checked, has, fault, checkCard}
+use Rattle.verdict.specs.Breaks.{BreaksCard}
 use Rattle.battery.specs.Typing.{TypedCard}
 
 -- accepted, with the counts of ENUMs and DEFs; or refused, with number, record and open group
@@ -112,4 +113,4 @@ pub data Refusal (image : List ℕ) : ℕ → Option ℕ → Option ℕ → Type
   cannot-follow : {ws : List Token} {r : ℕ} {g : Option ℕ} → Header image → tokensOf (recordsOf image) ≡ Some ws → Misplaced (textBytes image) ws r g → Refusal image 8 (Some r) g
   wrong-number : {ws : List Token} {C : Card} {p : ℕ}
       → Header image → tokensOf (recordsOf image) ≡ Some ws → Spelt (textBytes image) ws C → Lowest (Misnumbered C (textOf image) ws) p → Refusal image 9 (Some p) None
-  wrong-typing : {C : Card} {n p : ℕ} → Form image C → checkCard C ≡ fault n p → Refusal image n (Some p) None
+  wrong-typing : {C : Card} {n p : ℕ} → Form image C → BreaksCard C n p → Refusal image n (Some p) None

@@ -1,4 +1,4 @@
-ghost use Rattle.verdict.specs.Claims.{Reads-exactly, Spelt-unless-misplaced, Misplaced-first, Faultless-if-typed, Accepts-exactly-the-typed, One-card, Typing-faults, Refuses-exactly, Formed-by-form, Spelt-in-sequence};
+ghost use Rattle.verdict.specs.Claims.{Reads-exactly, Spelt-unless-misplaced, Misplaced-first, Faultless-if-typed, First-broken, Accepts-exactly-the-typed, One-card, Typing-faults, Refuses-exactly, Formed-by-form, Spelt-in-sequence};
 ghost use Rattle.verdict.specs.Cases.{K-accepted, K-without-4, K-without-16};
 
 pub fn verdict_holds() -> u8
@@ -6,6 +6,7 @@ pub fn verdict_holds() -> u8
     ensures spelt { λ _. ⌜ Spelt-unless-misplaced ⌝ }
     ensures first { λ _. ⌜ Misplaced-first ⌝ }
     ensures faultless { λ _. ⌜ Faultless-if-typed ⌝ }
+    ensures broken { λ _. ⌜ First-broken ⌝ }
     ensures accepts { λ _. ⌜ Accepts-exactly-the-typed ⌝ }
     ensures one { λ _. ⌜ One-card ⌝ }
     ensures faults { λ _. ⌜ Typing-faults ⌝ }

@@ -1,5 +1,6 @@
 use Rattle.verdict.proofs.verdict_holds.Needs as need
 use Rattle.verdict.proofs.Accept.{reads-exactly, spelt-unless-misplaced, faultless-if-typed, accepts-exactly-the-typed, one-card}
+use Rattle.verdict.proofs.Breaks.{first-broken}
 use Rattle.verdict.proofs.Refuse.{misplaced-first, typing-faults, refuses-exactly}
 use Rattle.verdict.proofs.Formed.{card-formed}
 use Rattle.verdict.proofs.Sequence.{spelt-in-sequence}
@@ -12,6 +13,7 @@ returns c =
       spelt = spelt-unless-misplaced;
       first = misplaced-first;
       faultless = faultless-if-typed;
+      broken = first-broken;
       accepts = accepts-exactly-the-typed;
       one = one-card;
       faults = typing-faults;

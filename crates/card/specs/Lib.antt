@@ -1,0 +1,4 @@
+pub mod Told
+pub mod Layers
+pub mod Lines
+pub mod Promises
