@@ -36,7 +36,7 @@ Refuses r n p g = (f : Fault) × (r ≡ Err f) × (numberOf f ≡ n) × (recordO
 abbrev pub RefusesForTheReason : List ℕ → Result Counts Fault → Type 0
 RefusesForTheReason image r = (n : ℕ) (p g : Option ℕ) → Refuses r n p g ↔ Refusal image n p g
 
--- a misplaced record is the first one with which the records begin no card, and the group is the innermost one open before it
+-- the records before a misplaced one begin some card and with it none (their end is misplaced where they are none yet), and the group is the innermost one open there
 abbrev pub NamesTheFirstMisplaced : List ℕ → Result Counts Fault → Type 0
 NamesTheFirstMisplaced image r =
     (p : ℕ) (g : Option ℕ) → r ≡ Err (Table (misplaced p g)) → (ws : List Token) × (tokensOf (recordsOf image) ≡ Some ws) × Misplaced (textBytes image) ws p g

@@ -3,9 +3,9 @@ ghost use Rattle.card.specs.Told.{numberOf, recordOf, groupOf, layerOf};
 ghost use Rattle.rules.specs.Typed.{typeNumber};
 ghost use Rattle.card.specs.declared.fault.Fault.the-variants.{Image as ofImage, Table as ofTable, Types as ofTypes};
 ghost use Rattle.verdict.specs.Verdict.{imageNumber};
+use image::ImageFault;
 use rules::Broken;
 use rules::TypeFault;
-use image::ImageFault;
 
 // What an accepted card has.
 #[derive(Clone, Copy)]

@@ -20,16 +20,16 @@ use crate::fault::Fault;
 use crate::fault::FaultFromTable;
 use crate::fault::FaultFromTypes;
 use crate::fault::TableFault;
-use rules::TypeFault;
-use typing::typed;
 use grammar::placed;
 use image::Header;
 use image::Reader;
 use numbering::Layout;
 use numbering::Tokens;
 use numbering::numbered;
+use rules::TypeFault;
 use table::Token;
 use table::tokens_of;
+use typing::typed;
 
 // The tokens of the records behind the header, as many as there is room for.
 fn known(image: &[u8], room: &mut [Token]) -> Result<(), TableFault>

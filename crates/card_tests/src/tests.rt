@@ -103,8 +103,14 @@ fn long_card(heap: Global, n: u16, pairs: u16) -> Result<Vec<u8>, AllocError> {
 
 #[test]
 fn records_up_to_512(rt: LibcRuntime) -> Result<(), Fail> {
-    check_eq(says(rt.alloc(), &long_card(rt.alloc(), 512, 254)?)?.as_str(), "ok 0 1")?;
-    check_eq(says(rt.alloc(), &long_card(rt.alloc(), 514, 255)?)?.as_str(), "no 5 - -")?;
+    check_eq(
+        says(rt.alloc(), &long_card(rt.alloc(), 512, 254)?)?.as_str(),
+        "ok 0 1",
+    )?;
+    check_eq(
+        says(rt.alloc(), &long_card(rt.alloc(), 514, 255)?)?.as_str(),
+        "no 5 - -",
+    )?;
     check_eq(answer(rt.alloc(), 513, &[DEF], 0)?.as_str(), "no 5 - -")?;
     check_eq(answer(rt.alloc(), 0, &[], 0)?.as_str(), "no 5 - -")
 }
@@ -120,9 +126,18 @@ fn texts_up_to_2048(rt: LibcRuntime) -> Result<(), Fail> {
 fn header_faults(rt: LibcRuntime) -> Result<(), Fail> {
     let heap = rt.alloc();
     check_eq(says(heap, b"RUL\x01\x00\x01\x00\x00")?.as_str(), "no 2 - -")?;
-    check_eq(says(heap, b"RUM\x01\x00\x01\x00\x00\x00")?.as_str(), "no 3 - -")?;
-    check_eq(says(heap, b"RUL\x02\x00\x01\x00\x00\x00")?.as_str(), "no 4 - -")?;
-    check_eq(says(heap, b"RUL\x01\x00\x01\x00\x00\x00")?.as_str(), "no 6 - -")?;
+    check_eq(
+        says(heap, b"RUM\x01\x00\x01\x00\x00\x00")?.as_str(),
+        "no 3 - -",
+    )?;
+    check_eq(
+        says(heap, b"RUL\x02\x00\x01\x00\x00\x00")?.as_str(),
+        "no 4 - -",
+    )?;
+    check_eq(
+        says(heap, b"RUL\x01\x00\x01\x00\x00\x00")?.as_str(),
+        "no 6 - -",
+    )?;
     check_eq(answer(heap, 1, &[CLOSE, CLOSE], 0)?.as_str(), "no 6 - -")
 }
 
@@ -131,7 +146,10 @@ fn header_faults(rt: LibcRuntime) -> Result<(), Fail> {
 fn table_faults(rt: LibcRuntime) -> Result<(), Fail> {
     let heap = rt.alloc();
     let case_16 = [2, 0, 16, 0, 0, 0, 0, 0];
-    check_eq(answer(heap, 3, &[ENUM, case_16, CLOSE], 0)?.as_str(), "no 7 1 -")?;
+    check_eq(
+        answer(heap, 3, &[ENUM, case_16, CLOSE], 0)?.as_str(),
+        "no 7 1 -",
+    )?;
     let names_to_65536 = [34, 1, 255, 255, 0, 0, 0, 0];
     check_eq(answer(heap, 1, &[names_to_65536], 0)?.as_str(), "no 8 0 -")?;
     let names_past = [34, 2, 255, 255, 0, 0, 0, 0];
@@ -146,10 +164,19 @@ fn text_places(rt: LibcRuntime) -> Result<(), Fail> {
     let heap = rt.alloc();
     let at_2 = [19, 0, 2, 0, 0, 0, 0, 0];
     let at_3 = [19, 0, 3, 0, 0, 0, 0, 0];
-    check_eq(answer(heap, 4, &[DEF, TEXT_TYPE, at_2, CLOSE], 2)?.as_str(), "ok 0 1")?;
-    check_eq(answer(heap, 4, &[DEF, TEXT_TYPE, at_3, CLOSE], 2)?.as_str(), "no 9 2 -")?;
+    check_eq(
+        answer(heap, 4, &[DEF, TEXT_TYPE, at_2, CLOSE], 2)?.as_str(),
+        "ok 0 1",
+    )?;
+    check_eq(
+        answer(heap, 4, &[DEF, TEXT_TYPE, at_3, CLOSE], 2)?.as_str(),
+        "no 9 2 -",
+    )?;
     let def_1 = [3, 0, 1, 0, 0, 0, 0, 0];
-    check_eq(answer(heap, 4, &[def_1, UNIT_TYPE, UNIT, CLOSE], 0)?.as_str(), "no 9 0 -")
+    check_eq(
+        answer(heap, 4, &[def_1, UNIT_TYPE, UNIT, CLOSE], 0)?.as_str(),
+        "no 9 0 -",
+    )
 }
 
 // Both branches are typed, whatever the condition is.
@@ -157,16 +184,70 @@ fn text_places(rt: LibcRuntime) -> Result<(), Fail> {
 fn both_branches_are_typed(rt: LibcRuntime) -> Result<(), Fail> {
     let heap = rt.alloc();
     let local_9 = [20, 0, 9, 0, 0, 0, 0, 0];
-    check_eq(answer(heap, 7, &[DEF, NUMBER_TYPE, IF, TRUE, ONE, local_9, CLOSE], 0)?.as_str(), "no 10 5 -")?;
-    check_eq(answer(heap, 7, &[DEF, NUMBER_TYPE, IF, TRUE, ONE, UNIT, CLOSE], 0)?.as_str(), "no 11 2 -")
+    check_eq(
+        answer(
+            heap,
+            7,
+            &[DEF, NUMBER_TYPE, IF, TRUE, ONE, local_9, CLOSE],
+            0,
+        )?.as_str(),
+        "no 10 5 -",
+    )?;
+    check_eq(
+        answer(heap, 7, &[DEF, NUMBER_TYPE, IF, TRUE, ONE, UNIT, CLOSE], 0)?.as_str(),
+        "no 11 2 -",
+    )
 }
 
 #[test]
 fn counts_and_arms(rt: LibcRuntime) -> Result<(), Fail> {
     let heap = rt.alloc();
     let call_with_one = [31, 1, 0, 0, 0, 0, 0, 0];
-    check_eq(answer(heap, 5, &[DEF, UNIT_TYPE, call_with_one, UNIT, CLOSE], 0)?.as_str(), "no 12 2 -")?;
+    check_eq(
+        answer(heap, 5, &[DEF, UNIT_TYPE, call_with_one, UNIT, CLOSE], 0)?.as_str(),
+        "no 12 2 -",
+    )?;
     let arm_1 = [34, 0, 0, 0, 1, 0, 0, 0];
-    check_eq(answer(heap, 11, &[ENUM, CASE, CLOSE, DEF, UNIT_TYPE, MATCH, MAKE, ARM, UNIT, CLOSE, CLOSE], 0)?.as_str(), "ok 1 1")?;
-    check_eq(answer(heap, 11, &[ENUM, CASE, CLOSE, DEF, UNIT_TYPE, MATCH, MAKE, arm_1, UNIT, CLOSE, CLOSE], 0)?.as_str(), "no 13 5 -")
+    check_eq(
+        answer(
+            heap,
+            11,
+            &[
+                ENUM,
+                CASE,
+                CLOSE,
+                DEF,
+                UNIT_TYPE,
+                MATCH,
+                MAKE,
+                ARM,
+                UNIT,
+                CLOSE,
+                CLOSE,
+            ],
+            0,
+        )?.as_str(),
+        "ok 1 1",
+    )?;
+    check_eq(
+        answer(
+            heap,
+            11,
+            &[
+                ENUM,
+                CASE,
+                CLOSE,
+                DEF,
+                UNIT_TYPE,
+                MATCH,
+                MAKE,
+                arm_1,
+                UNIT,
+                CLOSE,
+                CLOSE,
+            ],
+            0,
+        )?.as_str(),
+        "no 13 5 -",
+    )
 }

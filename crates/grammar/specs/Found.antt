@@ -1,4 +1,4 @@
--- What the test of places answers, and what each part of it says of the words that it went over.
+-- What the test of places answers, and what each part of it says of the tokens that it went over.
 use mathlib.Core.Path.{_≡_}
 use mathlib.Core.Bool.{Bool, true, false}
 use mathlib.Core.List.{List, [], _∷_}
@@ -17,21 +17,21 @@ abbrev pub foundBy : {A : Type 0} → Result A Misplaced → Option (ℕ × Opti
 foundBy (Ok a) = None
 foundBy (Err e) = Some (e .«record», e .group)
 
--- the word at a place, if there is one
-abbrev pub wordAt : List Token → ℕ → Option Token
-wordAt [] p = None
-wordAt (w ∷ ws) zero = Some w
-wordAt (w ∷ ws) (suc p) = wordAt ws p
+-- the token at a place, if there is one
+abbrev pub tokenAt : List Token → ℕ → Option Token
+tokenAt [] p = None
+tokenAt (w ∷ ws) zero = Some w
+tokenAt (w ∷ ws) (suc p) = tokenAt ws p
 
--- what a word that may not be there puts in the place of the first that is wanted, if it can follow
+-- what a token that may not be there puts in the place of the first that is wanted, if it can follow
 abbrev pub taken : ℕ → List Want → Option Token → Option (List Want)
 taken p K None = None
 taken p K (Some w) = follow p K w
 
 -- one record at place p where F is wanted: what it is says what is wanted in its place, or it cannot follow
 abbrev pub One : {X : Type 0} → List Token → ℕ → (List Want → List Want) → Option ℕ → (X → List Want → List Want) → Result X Misplaced → Type 0
-One ws p F g G (Ok x) = (p < length ws) × ((K : List Want) → taken p (F K) (wordAt ws p) ≡ Some (G x K))
-One ws p F g G (Err e) = (e ≡ record { «record» = p; group = g }) × ((K : List Want) → taken p (F K) (wordAt ws p) ≡ None)
+One ws p F g G (Ok x) = (p < length ws) × ((K : List Want) → taken p (F K) (tokenAt ws p) ≡ Some (G x K))
+One ws p F g G (Err e) = (e ≡ record { «record» = p; group = g }) × ((K : List Want) → taken p (F K) (tokenAt ws p) ≡ None)
 
 -- the types of a CASE and more cases, or what is wanted behind their CLOSE
 abbrev pub afterCase : ℕ → Option ℕ → List Want → List Want

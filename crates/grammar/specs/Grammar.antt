@@ -1,4 +1,4 @@
--- Which words spell which card, the reader, and which word cannot follow.
+-- Which tokens spell which card, the reader, and which token cannot follow.
 use mathlib.Core.Path.{_≡_}
 use mathlib.Core.Bool.{Bool, true, false, cond}
 use mathlib.Core.List.{List, [], _∷_, _++_}
@@ -20,7 +20,7 @@ use Rattle.table.specs.declared.token.Pair.the-variants.{Calc as CALC, Concat a
 use Rattle.table.specs.declared.token.Many.{Many}
 use Rattle.table.specs.declared.token.Many.the-variants.{Call as CALL, Make as MAKE}
 
--- what words spell, one after the other; cases and arms are one or more, with the CLOSE behind them
+-- what tokens spell, one after the other; cases and arms are one or more, with the CLOSE behind them
 pub data Piece : Type 0 where
   close : Piece
   type : Ty → Piece
@@ -65,7 +65,7 @@ count (e & es) = suc (count es)
 abbrev pub fnAt : ℕ → List Ty → Ty → Expr → Fn
 fnAt p τs τ e = record { opened = p; params = τs; result = τ; body = e }
 
--- the words from place p on spell these pieces: the table's column "Followed by", over text bytes t
+-- the tokens from place p on spell these pieces: the table's column "Followed by", over text bytes t
 pub data Spells (t : List ℕ) : ℕ → List Token → List Piece → Type 0 where
   s-end : {p : _} → Spells t p [] []
   s-close : {p ws ps : _} → Spells t (suc p) ws ps → Spells t p (CLOSE ∷ ws) (close ∷ ps)
@@ -96,14 +96,14 @@ pub data Items : List Piece → Card → Type 0 where
   enum-item : {ps E C : _} → Items ps C → Items (an-enum E ∷ ps) (with-enum E C)
   fn-item : {ps fn C : _} → Items ps C → Items (a-fn fn ∷ ps) (with-fn fn C)
 
--- one or more words spell a card
+-- one or more tokens spell a card
 pub record Spelt (t : List ℕ) (ws : List Token) (C : Card) : Type 0 where
   pub pieces : List Piece
   pub spells : Spells t 0 ws pieces
   pub items : Items pieces C
   pub one-or-more : 0 < length ws
 
--- The reader, from the last word to the first: each word takes its parts from the pieces behind it.
+-- The reader, from the last token to the first: each token takes its parts from the pieces behind it.
 abbrev pub takeExpr : List Piece → Option (Expr × List Piece)
 takeExpr [] = None
 takeExpr (close ∷ ps) = None
@@ -213,7 +213,7 @@ abbrev pub expecting : {A : Type 0} → ℕ → A → List A → List A
 expecting zero a as′ = as′
 expecting (suc n) a as′ = a ∷ expecting n a as′
 
--- what a word puts in the place of the first that is wanted, if it can follow
+-- what a token puts in the place of the first that is wanted, if it can follow
 abbrev pub asItem : ℕ → Token → Option (List Want)
 asItem p CLOSE = None
 asItem p (ENUM k) = Some (want-cases p false ∷ [])
@@ -276,7 +276,7 @@ asArm o b K (TYPE τ) = None
 asArm o b K (ARM n x c) = Some (want-expr ∷ want-arms o true ∷ K)
 asArm o b K (EXPR h) = None
 
--- the word at place p, where these are wanted: what is wanted then, if it can follow
+-- the token at place p, where these are wanted: what is wanted then, if it can follow
 abbrev pub follow : ℕ → List Want → Token → Option (List Want)
 follow p [] w = asItem p w
 follow p (want-type ∷ K) w = asType K w
@@ -294,13 +294,13 @@ group (want-close o ∷ K) = Some o
 group (want-cases o b ∷ K) = Some o
 group (want-arms o b ∷ K) = Some o
 
--- test 8: the first word that cannot follow, or the words' end, with the group
+-- test 8: the first token that cannot follow, or the tokens' end, with the group
 abbrev pub misplaced : ℕ → List Want → List Token → Option (ℕ × Option ℕ)
 misplaced p [] [] = None
 misplaced p (k ∷ K) [] = Some (p, group (k ∷ K))
 misplaced p K (w ∷ ws) = elim (follow p K w) [ None ↦ Some (p, group K) | Some K′ ↦ misplaced (suc p) K′ ws ]
 
--- The groups that words leave open, the innermost first, each by the place of its ENUM, DEF or MATCH.
+-- The groups that tokens leave open, the innermost first, each by the place of its ENUM, DEF or MATCH.
 abbrev pub innermost : List ℕ → Option ℕ
 innermost [] = None
 innermost (g ∷ gs) = Some g
@@ -330,13 +330,13 @@ abbrev pub openGroups : ℕ → List ℕ → List Token → List ℕ
 openGroups p gs [] = gs
 openGroups p gs (w ∷ ws) = openGroups (suc p) (opens p gs w) ws
 
--- words that Some card begins with
+-- tokens that Some card begins with
 pub record Begins (t : List ℕ) (vs : List Token) : Type 0 where
   pub rest : List Token
   pub card : Card
   pub spelt : Spelt t (vs ++ rest) card
 
--- the law of test 8: the words before place r begin a card, with the word at r they begin None, and g is the innermost group open before it
+-- the law of test 8: the tokens before place r begin a card, with the token at r they begin None, and g is the innermost group open before it
 pub record Misplaced (t : List ℕ) (ws : List Token) (r : ℕ) (g : Option ℕ) : Type 0 where
   pub within : r ≤ length ws
   pub before : Begins t (take r ws)
@@ -344,10 +344,10 @@ pub record Misplaced (t : List ℕ) (ws : List Token) (r : ℕ) (g : Option ℕ)
   pub no-card : (C : Card) → ¬ Spelt t ws C
   pub innermost-open : g ≡ innermost (openGroups 0 [] (take r ws))
 
--- pieces one after the other are spelt by words one after the other
+-- pieces one after the other are spelt by tokens one after the other
 pub record Apart (t : List ℕ) (p : ℕ) (ws : List Token) (qs ps : List Piece) : Type 0 where
   pub front : List Token
   pub back : List Token
-  pub joined-words : ws ≡ front ++ back
+  pub joined-tokens : ws ≡ front ++ back
   pub front-spells : Spells t p front qs
   pub back-spells : Spells t (p + length front) back ps

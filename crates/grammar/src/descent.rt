@@ -6,7 +6,7 @@ ghost use Rattle.std.specs.Results.{Cases};
 ghost use Rattle.std.specs.Options.{Cases as BySome};
 ghost use Rattle.std.specs.declared.option.Option.the-variants.{Some, None};
 ghost use Rattle.grammar.specs.Grammar.{want-type, want-expr, want-close, want-cases, want-arms, expecting, parts, misplaced};
-ghost use Rattle.grammar.specs.Found.{foundBy, wordAt, One, afterCase, afterArm, onward, Part};
+ghost use Rattle.grammar.specs.Found.{foundBy, tokenAt, One, afterCase, afterArm, onward, Part};
 use table::Head;
 use table::Token;
 
@@ -19,7 +19,7 @@ pub struct Misplaced {
 
 fn peek(tokens: &[Token], at: usize) -> Option<Token>
     ensures within { λ r. ⌜ BySome r (length (now (tokens .entry)) ≤ at) (λ _. at < length (now (tokens .entry))) ⌝ }
-    ensures is { λ r. ⌜ r ≡ wordAt (now (tokens .entry)) at ⌝ }
+    ensures is { λ r. ⌜ r ≡ tokenAt (now (tokens .entry)) at ⌝ }
 {
     tokens.get(at).copied()
 }

@@ -35,10 +35,7 @@ module _ {A : Type 0} where
   drop-at zero (x ∷ as′) e = ap (λ (a : A). a ∷ as′) (Some≡ e)
   drop-at (suc p) (x ∷ as′) e = drop-at p as′ e
 
-  pub at-within : (p : ℕ) (as′ : List A) {a : A} → at as′ p ≡ Some a → p < length as′
-  at-within p [] e = never e
-  at-within zero (x ∷ as′) e = omega arith
-  at-within (suc p) (x ∷ as′) e = let h = at-within p as′ e in omega arith
+
 
   -- one list and then another
   at-left : (as′ bs : List A) (i : ℕ) → i < length as′ → at (as′ ++ bs) i ≡ at as′ i

@@ -1,4 +1,4 @@
--- The reader gives a card exactly where the words spell it.
+-- The reader gives a card exactly where the tokens spell it.
 use mathlib.Core.Path.{_≡_, refl, subst}
 use mathlib.Core.Logic.{_⊎_, inl, inr}
 use mathlib.Core.List.{List, [], _∷_}
@@ -46,11 +46,11 @@ module _ (t : List ℕ) where
       let w = took-exprs n qs (r .mid) (r .got) in
       rw (← s) (s-many (r .mid .0) (w .0) (rw (w .1) at h))
 
-  joined-word : (p : ℕ) (w : Token) (ws : List Token) (qs ps : List Piece) → Spells t (suc p) ws qs → joined t p w qs ≡ Some ps → Spells t p (w ∷ ws) ps
-  joined-word p CLOSE ws qs ps h e = rw (← (Some≡ e)) (s-close h)
-  joined-word p (ENUM k) ws qs ps h e =
+  joined-token : (p : ℕ) (w : Token) (ws : List Token) (qs ps : List Piece) → Spells t (suc p) ws qs → joined t p w qs ≡ Some ps → Spells t p (w ∷ ws) ps
+  joined-token p CLOSE ws qs ps h e = rw (← (Some≡ e)) (s-close h)
+  joined-token p (ENUM k) ws qs ps h e =
       let r = through (takeCases qs) _ ps e in rw (← (Some≡ (r .gave))) (s-enum (rw (took-cases qs (r .mid) (r .got)) at h))
-  joined-word p (CASE n k) ws qs ps h e =
+  joined-token p (CASE n k) ws qs ps h e =
       let r = through (takeTypes n qs) _ ps e in
       let q = through (orClose [] (r .mid .1) (takeCases (r .mid .1))) _ ps (r .gave) in
       let w = took-types n qs (r .mid) (r .got) in
@@ -60,7 +60,7 @@ module _ (t : List ℕ) where
           → (takeCases (x .1) ≡ Some y) ⊎ ((x .1 ≡ close ∷ y .1) × ([] ≡ y .0)) → Spells t p (CASE n k ∷ ws) (cases (x .0 ∷ y .0) ∷ y .1)
       go x y l h (inl g) = s-case l (rw (took-cases (x .1) y g) at h)
       go x y l h (inr g) = rw (← (g .1)) (s-last-case l (rw (g .0) at h))
-  joined-word p (DEF n k) ws qs ps h e =
+  joined-token p (DEF n k) ws qs ps h e =
       let r = through (takeTypes n qs) _ ps e in
       let q = through (takeType (r .mid .1)) _ ps (r .gave) in
       let v = through (takeExpr (q .mid .1)) _ ps (q .gave) in
@@ -68,8 +68,8 @@ module _ (t : List ℕ) where
       let w = took-types n qs (r .mid) (r .got) in
       rw (← (Some≡ (z .gave)))
       (s-def (w .0) (rw (w .1, took-type (r .mid .1) (q .mid) (q .got), took-expr (q .mid .1) (v .mid) (v .got), took-close (v .mid .1) (z .mid) (z .got)) at h))
-  joined-word p (TYPE τ) ws qs ps h e = rw (← (Some≡ e)) (s-type h)
-  joined-word p (ARM n x c) ws qs ps h e =
+  joined-token p (TYPE τ) ws qs ps h e = rw (← (Some≡ e)) (s-type h)
+  joined-token p (ARM n x c) ws qs ps h e =
       let r = through (takeExpr qs) _ ps e in
       let q = through (orClose no-arm (r .mid .1) (takeArms (r .mid .1))) _ ps (r .gave) in
       rw (← (Some≡ (q .gave)))
@@ -79,13 +79,13 @@ module _ (t : List ℕ) where
           → (takeArms (u .1) ≡ Some y) ⊎ ((u .1 ≡ close ∷ y .1) × (no-arm ≡ y .0)) → Spells t p (ARM n x c ∷ ws) (arms (arm p c n x (u .0) (y .0)) ∷ y .1)
       go u y h (inl g) = s-arm (rw (took-arms (u .1) y g) at h)
       go u y h (inr g) = rw (← (g .1)) (s-last-arm (rw (g .0) at h))
-  joined-word p (EXPR a) ws qs ps h e =
+  joined-token p (EXPR a) ws qs ps h e =
       let r = through (joinedExpr t p a qs) _ ps e in rw (← (Some≡ (r .gave))) (joined-expr p a ws qs (r .mid) h (r .got))
 
   pub read-sound : (p : ℕ) (ws : List Token) (ps : List Piece) → piecesOf t p ws ≡ Some ps → Spells t p ws ps
   read-sound p [] ps e = rw (← (Some≡ e)) s-end
   read-sound p (w ∷ ws) ps e =
-      let r = through (piecesOf t (suc p) ws) (joined t p w) ps e in joined-word p w ws (r .mid) ps (read-sound (suc p) ws (r .mid) (r .got)) (r .gave)
+      let r = through (piecesOf t (suc p) ws) (joined t p w) ps e in joined-token p w ws (r .mid) ps (read-sound (suc p) ws (r .mid) (r .got)) (r .gave)
 
   take-exprs : (es : Exprs) (ps : List Piece) → takeExprs (count es) (exprs es ps) ≡ Some (es, ps)
   take-exprs ∅ ps = refl

@@ -17,7 +17,8 @@ use Rattle.numbering.specs.Ends.{look, times, isClose, past, Ends}
 use Rattle.numbering.proofs.Options.{through}
 use Rattle.numbering.proofs.Parts.{took-arms, or-close, armsFrom}
 use Rattle.numbering.proofs.Standing.{Skips}
-use Rattle.numbering.proofs.Lists.{at-drop, drop-next, at-within}
+use Rattle.numbering.proofs.Indexed.{at-below}
+use Rattle.numbering.proofs.Lists.{at-drop, drop-next}
 use Rattle.numbering.proofs.Read.{read-sound, read-complete}
 
 pub looked : (ws : List Token) (es : List ℕ) (p q : ℕ) → p < q → q < length ws → look ws es p q ≡ getD es q 0
@@ -47,7 +48,7 @@ module _ (t : List ℕ) (ws : List Token) (es : List ℕ) where
 
   begin : {q : ℕ} {w : Token} {vs : List Token} (ps : List Piece) → drop q ws ≡ w ∷ vs → Spells t (suc q) vs ps → Walks ps (suc q) → Goes q (suc q) ps
   begin {q} ps e h n =
-      record { past-it = omega arith; within = at-within q ws (at-drop q ws e); spelt = subst (λ (us : List Token). Spells t (suc q) us ps) (sym (drop-next q ws e)) h; more = n }
+      record { past-it = omega arith; within = at-below ws q _ (at-drop q ws e); spelt = subst (λ (us : List Token). Spells t (suc q) us ps) (sym (drop-next q ws e)) h; more = n }
 
   -- over one part more, by the table as it is looked up from q
   step : {q r : ℕ} {ps qs : List Piece} → Goes q r qs → Goes r (getD es r 0) ps → Goes q (look ws es q r) ps
@@ -66,7 +67,7 @@ module _ (t : List ℕ) (ws : List Token) (es : List ℕ) where
       where
         go : (o : Option Token) → at ws r ≡ o → cond (isClose o) (suc r) (look ws es q r) ≡ look ws es q r
         go None e = refl
-        go (Some CLOSE) e = sym (looked ws es q r h (at-within r ws e) ∙ ends r CLOSE e)
+        go (Some CLOSE) e = sym (looked ws es q r h (at-below ws r _ e) ∙ ends r CLOSE e)
         go (Some (ENUM k)) e = refl
         go (Some (CASE n k)) e = refl
         go (Some (DEF n k)) e = refl
@@ -113,31 +114,9 @@ module _ (t : List ℕ) (ws : List Token) (es : List ℕ) where
     walk (s-enum h) e = tt
     walk (s-def n h) e = tt
 
--- arms at q, or the CLOSE behind them, end at m
-pub record SkipsArms (t : List ℕ) (ws : List Token) (q m : ℕ) : Type 0 where
-  pub some-arms : (ms : Arms) (ps : List Piece) → armsFrom t q (drop q ws) ≡ Some (ms, ps) → (q < m) × (m ≤ length ws) × (piecesOf t m (drop m ws) ≡ Some ps)
-
 module _ (t : List ℕ) (ws : List Token) (es : List ℕ) (ends : Ends ws es) where
   reads : {q m : ℕ} {ps : List Piece} → Goes t ws es q m ps → (q < m) × (m ≤ length ws) × (piecesOf t m (drop m ws) ≡ Some ps)
   reads a = (a .past-it, a .within, read-complete t (a .spelt))
 
   pub skips : (q : ℕ) → q < length ws → Skips t ws q (getD es q 0)
   skips q l = record { expression = λ e ps h. reads (walk t ws es ends (read-sound t q (drop q ws) (expr e ∷ ps) h) refl) }
-
-  pub skips-look : (p q : ℕ) → p < q → q < length ws → Skips t ws q (look ws es p q)
-  skips-look p q h l = subst (Skips t ws q) (sym (looked ws es p q h l)) (skips q l)
-
-  pub skips-arms : (q : ℕ) → SkipsArms t ws q (getD es q 0)
-  skips-arms q = record {
-    some-arms = λ ms ps h.
-        let r = through (piecesOf t q (drop q ws)) _ (ms, ps) h in
-        go ms ps (r .mid) (read-sound t q (drop q ws) (r .mid) (r .got)) (or-close no-arm (r .mid) (takeArms (r .mid)) (ms, ps) (r .gave));
-  }
-    where
-      go : (ms : Arms) (ps qs : List Piece) → Spells t q (drop q ws) qs → (takeArms qs ≡ Some (ms, ps)) ⊎ ((qs ≡ close ∷ ps) × (no-arm ≡ ms))
-          → (q < getD es q 0) × (getD es q 0 ≤ length ws) × (piecesOf t (getD es q 0) (drop (getD es q 0) ws) ≡ Some ps)
-      go ms ps qs s (inl a) = reads (walk t ws es ends (subst (Spells t q (drop q ws)) (took-arms qs (ms, ps) a) s) refl)
-      go ms ps qs s (inr a) = reads (walk t ws es ends (subst (Spells t q (drop q ws)) (a .0) s) refl)
-
-  pub skips-arms-look : (p q : ℕ) → p < q → q < length ws → SkipsArms t ws q (look ws es p q)
-  skips-arms-look p q h l = subst (SkipsArms t ws q) (sym (looked ws es p q h l)) (skips-arms q)

@@ -6,6 +6,7 @@ use Prim.Native.Nat.{ℕ, zero, suc, _<_, _≤_}
 use native.Mathlib.Omega.{arith}
 use lib.ListN.{length, getD, drop}
 use lib.Seq.{drop-cons}
+use Rattle.std.proofs.shelf.Lists.{drop-all}
 use Rattle.battery.specs.declared.Ty.{Ty}
 use Rattle.verdict.specs.Order.{sameTy, sameTys}
 
@@ -18,14 +19,8 @@ go-on a b i d h k s = step a b i d h k ∙ ap (λ (z : Bool). z && sameTys (drop
 pub stop : (a b : List Ty) (i : ℕ) (d : Ty) → i < length a → i < length b → false ≡ sameTy (getD a i d) (getD b i d) → sameTys (drop i a) (drop i b) ≡ false
 stop a b i d h k s = step a b i d h k ∙ ap (λ (z : Bool). z && sameTys (drop (suc i) a) (drop (suc i) b)) (sym s)
 
-none-left : (a : List Ty) (i : ℕ) → length a ≤ i → drop i a ≡ []
-none-left [] zero h = refl
-none-left [] (suc i) h = refl
-none-left (x ∷ a) zero h = absurd (omega arith)
-none-left (x ∷ a) (suc i) h = none-left a i (omega arith)
-
 pub all-done : (a b : List Ty) (i : ℕ) → length a ≤ i → length b ≤ i → sameTys (drop i a) (drop i b) ≡ true
-all-done a b i h k = rw (none-left a i h, none-left b i k)
+all-done a b i h k = rw (drop-all i a h, drop-all i b k)
 
 pub uneven : (a b : List Ty) → ¬ (length a ≡ length b) → sameTys a b ≡ false
 uneven [] [] n = absurd (n refl)

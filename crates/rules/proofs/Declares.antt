@@ -61,15 +61,6 @@ module _ (ws : List Token) where
       go fn None x = x
       go fn (Some s) x = x
 
-  pub lost-function : (p : ℕ) (r : Option Signature) → None ≡ parameterCount (at ws p) → DeclaredAt ws p r
-  lost-function p r w n k τs τ h l e g = absurd (parameters-not (at ws p) w n k h)
-
-  pub lost-result : (p m : ℕ) (r : Option Signature) → Some m ≡ parameterCount (at ws p) → None ≡ typeOf (at ws (p + 1 + m)) → DeclaredAt ws p r
-  lost-result p m r w v n k τs τ h l e g =
-      let i : m ≡ n = parameters-is (at ws p) n k m w h in
-      let q : p + 1 + m ≡ suc p + n = omega arith in
-      absurd (type-not (at ws (p + 1 + m)) v τ (rw q g))
-
   pub declared : (p m : ℕ) (b s : Types) (σ : Ty) → Some m ≡ parameterCount (at ws p) → Some σ ≡ typeOf (at ws (p + 1 + m)) → typesOf b ≡ [] → TypesAt ws (p + 1) m (typesOf b) (typesOf s) → DeclaredAt ws p (Some (record { parameters = s; result = σ }))
   declared p m b s σ w v e g n k τs τ h l f x =
       let i : m ≡ n = parameters-is (at ws p) n k m w h in

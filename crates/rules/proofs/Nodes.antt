@@ -48,9 +48,6 @@ two-types p (fault n q) τ o = refl
 two-types p (has a) (fault n q) o = refl
 two-types p (has a) (has b) o = refl
 
-abbrev by-two : Card → Scope Ty → ℕ → Pair → Expr → Expr → Checked Ty
-by-two C Γ p o a b = check C Γ a ▹ λ σ. check C Γ b ▹ λ τ. there 11 p (pairType o σ τ)
-
 in-two : (p : ℕ) (σ τ : Checked Ty) (f g : Ty → Ty → Checked Ty) → ((a b : Ty) → f a b ≡ g a b) → (σ ▹ λ a. τ ▹ λ b. f a b) ≡ (σ ▹ λ a. τ ▹ λ b. g a b)
 in-two p (fault n q) τ f g h = refl
 in-two p (has a) (fault n q) f g h = refl

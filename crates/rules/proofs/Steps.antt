@@ -22,6 +22,7 @@ use Rattle.table.specs.declared.token.Leaf.{Leaf}
 use Rattle.table.specs.declared.token.Leaf.the-variants.{Unit as UNIT, Number as NUM, Boolean as BOOL, Text as STR, Local as LOCAL}
 use Rattle.table.specs.declared.token.Pair.the-variants.{Val as VAL}
 use Rattle.grammar.specs.Grammar.{Piece, close, type, expr, exprs, count, arms, leafAt, takeArms, orClose, cardOf, piecesOf}
+use Rattle.numbering.proofs.Lists.{drop-at}
 use Rattle.numbering.proofs.Options.{never, Some≡, through}
 use Rattle.numbering.proofs.Parts.{behind, no-expr, only-type, of-leaf, of-pair, of-match, of-exit, of-arm, of-no-arm, arms-first, ArmsToken, is-close, is-arm, arms-token, some-arm, Armed}
 use Rattle.verdict.specs.Order.{Checked, has, fault, _▹_, rule, there, sameTy, enumOf, check, checkAll, checkArms, allAs, allOnce, armsNamed, fieldsOf, common}
@@ -33,9 +34,7 @@ use Rattle.rules.specs.Typed.{typeNumber, checkedBy, Gave, TypedAt, PartsAt, a
 use Rattle.rules.proofs.Nodes.{plain, node}
 
 pub behind-at : (ws : List Token) (p : ℕ) (w : Token) → at ws p ≡ Some w → drop p ws ≡ w ∷ drop (suc p) ws
-behind-at [] p w e = never e
-behind-at (v ∷ ws) zero w e = ap (λ (u : Token). u ∷ ws) (Some≡ e)
-behind-at (v ∷ ws) (suc p) w e = behind-at ws p w e
+behind-at ws p w e = drop-at p ws e
 
 pub none-at : (ws : List Token) (p : ℕ) → at ws p ≡ None → drop p ws ≡ []
 none-at [] zero e = refl

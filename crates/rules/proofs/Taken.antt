@@ -42,10 +42,6 @@ first-type ws p n τs e = go (at ws p) refl
     go None h = never (subst (λ vs. typesIn (suc n) vs ≡ Some τs) (none-at ws p h) e)
     go (Some w) h = by w h (subst (λ vs. typesIn (suc n) vs ≡ Some τs) (behind-at ws p w h) e)
 
-pub none-taken : (ws : List Token) (p n : ℕ) (b : List Ty) → n ≡ 0 → TypesAt ws p n b b
-none-taken ws p zero b z τs e l = sym (ap (λ (υs : List Ty). b ++ υs) (sym (Some≡ e)) ∙ append-nil b)
-none-taken ws p (suc n) b z τs e l = absurd (omega arith)
-
 pub one-taken : (ws : List Token) (p n : ℕ) (τ : Ty) (b d r : List Ty) → (n ≡ 0 → ⊥) → at ws p ≡ Some (TYPE τ) → d ≡ cond (ltb (length b) 4) (b ++ τ ∷ []) b → TypesAt ws (p + 1) (n - 1) d r → TypesAt ws p n b r
 one-taken ws p zero τ b d r z h g s τs e l = absurd (z refl)
 one-taken ws p (suc n) τ b d r z h g s τs e l =

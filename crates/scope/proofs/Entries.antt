@@ -24,10 +24,6 @@ module _ {T : Type 0} where
   pub scope-set : (es : List (Entry T)) (i : ℕ) (e : Entry T) → i < length es → scopeOf (take (i + 1) (set es i e)) ≡ (e .name, e .value) ∷ scopeOf (take i es)
   scope-set es i e h = ap scopeOf (take-more-set es i e h) ∙ scope-push (take i es) e
 
-  -- a write behind the first entries leaves their scope
-  pub scope-set-le : (n : ℕ) (es : List (Entry T)) (i : ℕ) (e : Entry T) → n ≤ i → scopeOf (take n (set es i e)) ≡ scopeOf (take n es)
-  scope-set-le n es i e h = ap scopeOf (take-set-le n es i e h)
-
   -- names bound in order, and one more
   pub bind-push : (x : ℕ) (vs : List T) (v : T) (s : Scope T) → bind x (vs ++ v ∷ []) s ≡ (x + length vs, v) ∷ bind x vs s
   bind-push x [] v s = let z : x ≡ x + 0 = omega arith in ap (λ n. (n, v) ∷ s) z

@@ -5,6 +5,7 @@ use mathlib.Core.List.{List, [], _∷_}
 use Prim.Native.Nat.{ℕ, zero, suc, _+_, _<_, _≤_}
 use native.Mathlib.Omega.{arith}
 use lib.ListN.{length, take, drop}
+use Rattle.std.proofs.shelf.Lists.{drop-all}
 use Rattle.std.specs.declared.option.Option.{Option}
 use Rattle.std.specs.declared.option.Option.the-variants.{Some, None}
 use Rattle.std.specs.declared.result.Result.{Result}
@@ -35,9 +36,6 @@ use Rattle.typing.specs.Functions.{FunctionAt}
 module _ (ws : List Token) where
   pub no-place : (f : ℕ) (r : Result (Unit {0}) TypeFault) → None ≡ at (functionsIn 0 ws) f → FunctionAt ws f r
   no-place f r e t C read fn h = never (sym (matched-none (function-at t ws C read f) (sym e)) ∙ h)
-
-  pub no-signature : (f : ℕ) (r : Result (Unit {0}) TypeFault) → OnCard ws (λ C. SameSignature None (at (C .fns) f)) → FunctionAt ws f r
-  no-signature f r e t C read fn h = absurd (subst (SameSignature None) h (e t C read))
 
   -- the answer at a body, without the place behind it
   abbrev typeBy : Result (Ty × ℕ) TypeFault → Checked Ty
@@ -118,14 +116,8 @@ module _ (ws : List Token) where
       let x = next-of C i (C .fns) (omega (arith, functions-counted t ws C read)) in
       sym (h t C read ∙ ap (checkFns C) (x .2) ∙ ap (λ (c : Checked (Unit {0})). c ▹ λ u. checkFns C (drop (suc i) (C .fns))) (sym (d t C read (x .0) (x .1))))
 
-  none-left : (i : ℕ) (fns : List Fn) → length fns ≤ i → drop i fns ≡ []
-  none-left zero [] h = refl
-  none-left (suc i) [] h = refl
-  none-left zero (fn ∷ fns) h = absurd (omega arith)
-  none-left (suc i) (fn ∷ fns) h = none-left i fns (omega arith)
-
   pub left-none : (i : ℕ) → length (functionsIn 0 ws) ≤ i → LeftAt i → OnCard ws (λ C. has tt ≡ checkCard C)
-  left-none i l h t C read = sym (h t C read ∙ ap (checkFns C) (none-left i (C .fns) (omega (arith, functions-counted t ws C read))))
+  left-none i l h t C read = sym (h t C read ∙ ap (checkFns C) (drop-all i (C .fns) (omega (arith, functions-counted t ws C read))))
 
 -- a function's place is one of the tokens'
 pub function-below : (ws : List Token) (p f q : ℕ) → at (functionsIn p ws) f ≡ Some q → q < p + length ws

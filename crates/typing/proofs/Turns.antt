@@ -71,10 +71,6 @@ module _ (ws : List Token) where
   on : (Γ : Scope Ty) (p : ℕ) (r : Result (Ty × ℕ) TypeFault) → TypedAt ws Γ (p + 1) r → TypedAt ws Γ (suc p) r
   on Γ p r h = subst (λ q. TypedAt ws Γ q r) (step-on p) h
 
-  -- the scope is the same after another part
-  again : (b p : ℕ) (s u : Entries) (r : Result (Ty × ℕ) TypeFault) → take b u ≡ take b s → TypedAt ws (Seen b u) p r → TypedAt ws (Seen b s) p r
-  again b p s u r e h = subst (λ v. TypedAt ws (scopeOf v) p r) e h
-
   pub no-head : (Γ : Scope Ty) (p : ℕ) (r : Result (Ty × ℕ) TypeFault) → None ≡ headOf (at ws p) → TypedAt ws Γ p r
   no-head Γ p r e = go (at ws p) refl
     where

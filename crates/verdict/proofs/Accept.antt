@@ -42,9 +42,9 @@ faultless-if-typed image C f = (form-typed image C f, typed-card C)
 
 pub one-card : One-card
 one-card image C D f g =
-    let w : f .words ≡ g .words = Some≡ (sym (f .known) ∙ g .known) in
-    let k : cardOf (textBytes image) (g .words) ≡ Some C = subst (λ ws. cardOf (textBytes image) ws ≡ Some C) w (card-complete (textBytes image) (f .words) C (f .spelt)) in
-    Some≡ (sym k ∙ card-complete (textBytes image) (g .words) D (g .spelt))
+    let w : f .tokens ≡ g .tokens = Some≡ (sym (f .known) ∙ g .known) in
+    let k : cardOf (textBytes image) (g .tokens) ≡ Some C = subst (λ ws. cardOf (textBytes image) ws ≡ Some C) w (card-complete (textBytes image) (f .tokens) C (f .spelt)) in
+    Some≡ (sym k ∙ card-complete (textBytes image) (g .tokens) D (g .spelt))
 
 -- the header's tests, one by one
 passes : (b : Bool) (n : ImageFault) (o : Option ImageFault) → cond b (Some n) o ≡ None → (b ≡ false) × (o ≡ None)
@@ -121,7 +121,7 @@ module _ (image : List ℕ) (m n : ℕ) where
         counts C
         (record {
           header = h;
-          words = ws;
+          tokens = ws;
           known = known;
           spelt = s;
           in-order = q;
@@ -150,7 +150,7 @@ accepts image m n a =
     let C = a .card in
     ap (byHeader image) (header-passes image (f .header))
     ∙ ap (byTable image) (f .known)
-    ∙ ap (byGrammar (textOf image) (f .words)) (card-complete (textBytes image) (f .words) C (f .spelt))
+    ∙ ap (byGrammar (textOf image) (f .tokens)) (card-complete (textBytes image) (f .tokens) C (f .spelt))
     ∙ ap (byNumbers C) (f .in-order)
     ∙ ap (byTypes C) (typed-card C (a .typed))
     ∙ ap₂ accepted (a .enums) (a .functions)

@@ -17,8 +17,8 @@ use Rattle.verdict.specs.Order.{Checked, has, fault, _▹_, rule, there, sameT
 use Rattle.verdict.specs.Formed.{allThere, Formed, FormedAll, FormedArms, FormedFn, FormedCard}
 use Rattle.verdict.specs.Breaks.{parts, Named, no-more, names, Fits, ArmTypes, no-type, arm-type, Breaks, b-part, b-local, b-calc, b-concat, b-eq, b-lt, b-if, b-exit, b-val, b-call-count, b-call, b-make-count, b-make, b-match-type, b-match-cases, b-match-arm, b-match, BreaksPart, b-this, b-later, BreaksArm, b-this-arm, b-later-arm, BreaksFn, b-body, b-result, b-later-fn}
 use Rattle.verdict.specs.Claims.{First-broken}
-use Rattle.numbering.proofs.Options.{through, Some≡, never}
-use Rattle.verdict.proofs.Check.{faulty, has≡, passed, rule-true, was-there, false≢true, both, same, same-self, same-all, same-all-self, all-once, once-all, All, a-nil, a-cons, all-as, enum-of, as-type, sound, sound-all, complete, complete-all}
+use Rattle.numbering.proofs.Options.{through, Some≡, never, false≢true, both}
+use Rattle.verdict.proofs.Check.{faulty, has≡, passed, rule-true, was-there, same, same-self, same-all, same-all-self, all-once, once-all, All, a-nil, a-cons, all-as, enum-of, as-type, sound, sound-all, complete, complete-all}
 use Rattle.verdict.proofs.Formed.{card-formed}
 use Rattle.verdict.proofs.Faults.{Fine, Known, KnownIn, known-more, known-bind, fine}
 

@@ -18,7 +18,7 @@ use Rattle.table.specs.Naming.{typeNamed}
 use Rattle.numbering.specs.Numbering.{caseOf, isThere, typeThere}
 use Rattle.verdict.specs.Order.{Checked, has, fault, _▹_, rule, there, kindOf, enumNumber, sameTy, sameTys, enumOf, allOnce, asFields, armsNamed, fieldsOf, allAs, common, check, checkAll, checkArms, checkFn, checkFns, checkCard}
 use Rattle.verdict.specs.Formed.{allThere, Formed, FormedAll, FormedArms, FormedFn, FormedCard}
-use Rattle.numbering.proofs.Options.{Through, through, Some≡, never}
+use Rattle.numbering.proofs.Options.{Through, through, Some≡, never, false≢true, both}
 
 -- a check that went through
 pub record Passed {A B : Type 0} (o : Checked A) (f : A → Checked B) (b : B) : Type 0 where
@@ -43,13 +43,6 @@ rule-true n p false u e = faulty e
 pub was-there : {A : Type 0} (n p : ℕ) (o : Option A) (a : A) → there n p o ≡ has a → o ≡ Some a
 was-there n p None a e = faulty e
 was-there n p (Some b) a e = ap {B = Option _} Some (has≡ e)
-
-pub false≢true : {P : Type 0} → false ≡ true → P
-false≢true e = let z : _≡_ {A = ℕ} 0 1 = cc in absurd (omega arith)
-
-pub both : (a b : Bool) → (a && b) ≡ true → (a ≡ true) × (b ≡ true)
-both true b e = (refl, e)
-both false b e = false≢true e
 
 told : (τ : Ty) → typeNamed (kindOf τ) (enumNumber τ) ≡ τ
 told unit = refl

@@ -14,8 +14,8 @@ use Rattle.battery.specs.Tree.{Expr, Unit′, Num, Bool′, Str, Local, Calc, C
 use Rattle.numbering.specs.Numbering.{caseOf, isThere, typeThere}
 use Rattle.verdict.specs.Order.{Checked, has, fault, _▹_, rule, there, sameTy, sameTys, enumOf, allOnce, armsNamed, fieldsOf, allAs, common, check, checkAll, checkArms, checkFn, checkFns, checkCard}
 use Rattle.verdict.specs.Formed.{allThere, Formed, FormedAll, FormedArms, FormedFn, FormedCard}
-use Rattle.numbering.proofs.Options.{through, Some≡, never}
-use Rattle.verdict.proofs.Check.{enum-of, false≢true}
+use Rattle.numbering.proofs.Options.{through, Some≡, never, false≢true}
+use Rattle.verdict.proofs.Check.{enum-of}
 
 abbrev pub OfTyping : ℕ → Type 0
 OfTyping n = (10 ≤ n) × (n ≤ 13)

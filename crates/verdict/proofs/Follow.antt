@@ -1,4 +1,4 @@
--- What can follow: the reader's card is there exactly where no word is misplaced, and the misplaced word is the first that no card has there.
+-- What can follow: the reader's card is there exactly where no token is misplaced, and the misplaced token is the first that no card has there.
 use mathlib.Core.Path.{_≡_, refl, sym, _∙_, ap, subst}
 use mathlib.Core.Bool.{Bool, true, false, cond}
 use mathlib.Core.List.{List, [], _∷_, _++_}
@@ -288,7 +288,7 @@ refused-here p K w us f = rw (f, misplaced)
 goes-on : (p : ℕ) (K K′ : List Want) (w : Token) (us : List Token) → follow p K w ≡ Some K′ → misplaced p K (w ∷ us) ≡ misplaced (suc p) K′ us
 goes-on p K K′ w us f = rw (f, misplaced)
 
--- where the words stop being placed: d words on, with K′ wanted there
+-- where the tokens stop being placed: d tokens on, with K′ wanted there
 record Stop (p : ℕ) (K : List Want) (ws : List Token) (r : ℕ) (g : Option ℕ) : Type 0 where
   d : ℕ
   K′ : List Want

@@ -28,13 +28,12 @@ use Rattle.grammar.specs.Grammar.{Piece, close, type, expr, cases, arms, an-enu
 use Rattle.numbering.specs.Numbering.{caseOf, isThere, typeThere}
 use Rattle.verdict.specs.Formed.{allThere, Formed, FormedAll, FormedArms, FormedFn, FormedCard}
 use Rattle.numbering.specs.Numbering.{Seen, seen, none-seen, manyThere, numbered, misnumbered}
-use Rattle.numbering.specs.Limits.{LimitedLeaf as InLeaf, LimitedHead as InHead, Limited as InWord, AllLimited as InWords}
-use Rattle.numbering.proofs.Limits.{all-limited as words-in}
+use Rattle.numbering.specs.Limits.{LimitedLeaf as InLeaf, LimitedHead as InHead, Limited as InToken, AllLimited as InTokens}
+use Rattle.numbering.proofs.Limits.{all-limited as tokens-in}
 use Rattle.verdict.specs.Verdict.{Form}
-use Rattle.numbering.proofs.Options.{through, Some≡, never}
-use Rattle.verdict.proofs.Check.{both, false≢true}
+use Rattle.numbering.proofs.Options.{through, Some≡, never, both, false≢true}
 
--- words that name what the card has
+-- tokens that name what the card has
 module _ (C : Card) where
   abbrev NamedHead : Head → Type 0
   NamedHead (LEAF l) = InLeaf l
@@ -65,21 +64,21 @@ module _ (C : Card) where
   head-named t s EXIT i e = tt
   head-named t s (MANY n m) i e = e
 
-  word-named : (t : ℕ) (s : Seen) (w : Token) → InWord w → numbered C t s w ≡ true → Named w
-  word-named t s CLOSE i e = tt
-  word-named t s (ENUM k) i e = tt
-  word-named t s (CASE n k) i e = tt
-  word-named t s (DEF n k) i e = tt
-  word-named t s (TYPE τ) i e = e
-  word-named t s (ARM n x c) i e = tt
-  word-named t s (EXPR h) i e = head-named t s h i e
+  token-named : (t : ℕ) (s : Seen) (w : Token) → InToken w → numbered C t s w ≡ true → Named w
+  token-named t s CLOSE i e = tt
+  token-named t s (ENUM k) i e = tt
+  token-named t s (CASE n k) i e = tt
+  token-named t s (DEF n k) i e = tt
+  token-named t s (TYPE τ) i e = e
+  token-named t s (ARM n x c) i e = tt
+  token-named t s (EXPR h) i e = head-named t s h i e
 
-  all-named : (t p : ℕ) (s : Seen) (ws : List Token) → InWords ws → misnumbered C t p s ws ≡ None → AllNamed ws
+  all-named : (t p : ℕ) (s : Seen) (ws : List Token) → InTokens ws → misnumbered C t p s ws ≡ None → AllNamed ws
   all-named t p s [] i e = tt
   all-named t p s (w ∷ ws) i e = go (numbered C t s w) refl e (all-named t (suc p) (seen s w) ws (i .1))
     where
       go : (b : Bool) → numbered C t s w ≡ b → cond b (misnumbered C t (suc p) (seen s w) ws) (Some p) ≡ None → (misnumbered C t (suc p) (seen s w) ws ≡ None → AllNamed ws) → AllNamed (w ∷ ws)
-      go true q e r = (word-named t s w (i .0) q, r e)
+      go true q e r = (token-named t s w (i .0) q, r e)
       go false q e r = never (sym e)
 
   abbrev AllCases : List (List Ty) → Type 0
@@ -166,5 +165,5 @@ module _ (C : Card) where
 
 pub card-formed : (image : List ℕ) (C : Card) → Form image C → FormedCard C
 card-formed image C f =
-    let g = formed C (f .spelt .spells) (all-named C (textOf image) 0 none-seen (f .words) (words-in (recordsOf image) (f .words) (f .known)) (f .in-order)) in
+    let g = formed C (f .spelt .spells) (all-named C (textOf image) 0 none-seen (f .tokens) (tokens-in (recordsOf image) (f .tokens) (f .known)) (f .in-order)) in
     record { fields = λ k E e. case-there C E (items-enums C (f .spelt .items) g k E e); functions = items-fns C (f .spelt .items) g }

@@ -24,10 +24,9 @@ use Rattle.verdict.specs.Order.{Checked, has, fault, checkCard}
 use Rattle.numbering.specs.Numbering.{Seen, seen, none-seen, seenIn, numbered, misnumbered}
 use Rattle.verdict.specs.Verdict.{Verdict, accepted, refused, byTypes, byNumbers, byPlace, byGrammar, byTable, imageNumber, byHeader, verdict, Ranges, Whole, Header, Form, Lowest, Unknown, Misnumbered, Refusal, too-short, wrong-letters, wrong-version, out-of-range, wrong-length, not-in-table, cannot-follow, wrong-number, wrong-typing}
 use Rattle.verdict.specs.Claims.{Misplaced-first, Refuses-exactly, Typing-faults}
-use Rattle.numbering.proofs.Options.{through, Some≡, never}
+use Rattle.numbering.proofs.Options.{through, Some≡, never, false≢true}
 use Rattle.numbering.proofs.Read.{card-sound, card-complete}
 use Rattle.verdict.proofs.Follow.{placed, not-misplaced, law-8}
-use Rattle.verdict.proofs.Check.{false≢true}
 use Rattle.verdict.proofs.Formed.{card-formed}
 use Rattle.verdict.proofs.Faults.{type-faults}
 use Rattle.verdict.proofs.Breaks.{first-broken}
@@ -112,10 +111,10 @@ unknown-exactly rs p m = go (unknown 0 rs) refl
         let f : k ≡ p = omega (arith, x .1) in
         cc
 
--- Some record is unknown exactly where there are no words
-words-unknown : (p : ℕ) (rs : List Record) → tokensOf rs ≡ None → (q : ℕ) × (unknown p rs ≡ Some q)
-words-unknown p [] e = never (sym e)
-words-unknown p (r ∷ rs) e = go (tokenOf r) refl e (words-unknown (suc p) rs)
+-- Some record is unknown exactly where there are no tokens
+tokens-unknown : (p : ℕ) (rs : List Record) → tokensOf rs ≡ None → (q : ℕ) × (unknown p rs ≡ Some q)
+tokens-unknown p [] e = never (sym e)
+tokens-unknown p (r ∷ rs) e = go (tokenOf r) refl e (tokens-unknown (suc p) rs)
   where
     last : (w : Token) (o : Option (List Token)) → (o ▸ λ ws. Some (w ∷ ws)) ≡ None → o ≡ None
     last w None e = refl
@@ -126,19 +125,19 @@ words-unknown p (r ∷ rs) e = go (tokenOf r) refl e (words-unknown (suc p) rs)
     go None k e h = (p, refl)
     go (Some w) k e h = h (last w (tokensOf rs) e)
 
-words-known : (rs : List Record) (ws : List Token) → tokensOf rs ≡ Some ws → (p : ℕ) → unknown p rs ≡ None
-words-known [] ws e p = refl
-words-known (r ∷ rs) ws e p =
+tokens-known : (rs : List Record) (ws : List Token) → tokensOf rs ≡ Some ws → (p : ℕ) → unknown p rs ≡ None
+tokens-known [] ws e p = refl
+tokens-known (r ∷ rs) ws e p =
     let x = through (tokenOf r) _ ws e in
     let y = through (tokensOf rs) _ ws (x .gave) in
-    rw (x .got, unknown) (words-known rs (y .mid) (y .got) (suc p))
+    rw (x .got, unknown) (tokens-known rs (y .mid) (y .got) (suc p))
 
-no-words : (rs : List Record) (p : ℕ) → Lowest (Unknown rs) p → tokensOf rs ≡ None
-no-words rs p m = go (tokensOf rs) refl
+no-tokens : (rs : List Record) (p : ℕ) → Lowest (Unknown rs) p → tokensOf rs ≡ None
+no-tokens rs p m = go (tokensOf rs) refl
   where
     go : (o : Option (List Token)) → tokensOf rs ≡ o → o ≡ None
     go None q = refl
-    go (Some ws) q = absurd (no-unknown 0 rs (words-known rs ws q 0) p (m .is-bad))
+    go (Some ws) q = absurd (no-unknown 0 rs (tokens-known rs ws q 0) p (m .is-bad))
 
 -- test 9
 module _ (C : Card) (t : ℕ) where
@@ -181,21 +180,21 @@ module _ (C : Card) (t : ℕ) where
           let f : k ≡ p = omega (arith, x .1) in
           cc
 
--- as many words as records, and one or more
+-- as many tokens as records, and one or more
 length-records : (n p : ℕ) (image : List ℕ) → length (recordsFrom image p n) ≡ n
 length-records zero p image = refl
 length-records (suc n) p image = ap suc (length-records n (p + 8) image)
 
-length-words : (rs : List Record) (ws : List Token) → tokensOf rs ≡ Some ws → length ws ≡ length rs
-length-words [] ws e = rw (← (Some≡ e))
-length-words (r ∷ rs) ws e =
+length-tokens : (rs : List Record) (ws : List Token) → tokensOf rs ≡ Some ws → length ws ≡ length rs
+length-tokens [] ws e = rw (← (Some≡ e))
+length-tokens (r ∷ rs) ws e =
     let x = through (tokenOf r) _ ws e in
     let y = through (tokensOf rs) _ ws (x .gave) in
-    rw (← (Some≡ (y .gave))) (ap suc (length-words rs (y .mid) (y .got)))
+    rw (← (Some≡ (y .gave))) (ap suc (length-tokens rs (y .mid) (y .got)))
 
-some-words : (image : List ℕ) (ws : List Token) → Header image → tokensOf (recordsOf image) ≡ Some ws → 0 < length ws
-some-words image ws h k =
-    let a = length-words (recordsOf image) ws k in
+some-tokens : (image : List ℕ) (ws : List Token) → Header image → tokensOf (recordsOf image) ≡ Some ws → 0 < length ws
+some-tokens image ws h k =
+    let a = length-tokens (recordsOf image) ws k in
     let b = length-records (countOf image) 9 image in
     omega (arith, a, b, h .ranges .records-from)
 
@@ -232,11 +231,11 @@ module _ (image : List ℕ) where
         let x = lowest-misnumbered C (textOf image) 0 none-seen ws p q in
         let e : x .0 ≡ p = omega (arith, x .1) in
         wrong-number h k s (subst (Lowest (Misnumbered C (textOf image) ws)) e (x .2))
-    right-numbers C s None q = right-types C (record { header = h; words = ws; known = k; spelt = s; in-order = q }) (checkCard C) refl
+    right-numbers C s None q = right-types C (record { header = h; tokens = ws; known = k; spelt = s; in-order = q }) (checkCard C) refl
 
     right-place : cardOf (textBytes image) ws ≡ None → (o : Option (ℕ × Option ℕ)) → misplaced 0 [] ws ≡ o → Right image (byPlace o)
     right-place c None q =
-        let x = placed (textBytes image) ws (some-words image ws h k) q in never (sym c ∙ card-complete (textBytes image) ws (x .0) (x .1))
+        let x = placed (textBytes image) ws (some-tokens image ws h k) q in never (sym c ∙ card-complete (textBytes image) ws (x .0) (x .1))
     right-place c (Some x) q = cannot-follow h k (law-8 (textBytes image) ws (x .0) (x .1) q)
 
     right-grammar : (o : Option Card) → cardOf (textBytes image) ws ≡ o → Right image (byGrammar (textOf image) ws o)
@@ -246,7 +245,7 @@ module _ (image : List ℕ) where
   right-table : Header image → (o : Option (List Token)) → tokensOf (recordsOf image) ≡ o → Right image (byTable image o)
   right-table h (Some ws) q = right-grammar h ws q (cardOf (textBytes image) ws) refl
   right-table h None q =
-      let u = words-unknown 0 (recordsOf image) q in
+      let u = tokens-unknown 0 (recordsOf image) q in
       let x = lowest-unknown 0 (recordsOf image) (u .0) (u .1) in
       let e : x .0 ≡ u .0 = omega (arith, x .1) in
       subst (λ o. Refusal image 7 o None) (sym (u .1)) (not-in-table h (subst (Lowest (Unknown (recordsOf image))) e (x .2)))
@@ -303,13 +302,13 @@ module _ (image : List ℕ) where
       ap (byHeader image)
       (past short Short Length _ (le-ltb _ _ l) (past unlettered Letters Length _ (untrue _ w) (past other-version Version Length _ (untrue _ (eq-eqb _ _ v))
       (past (outside image) Range Length _ (ranges-in image r) (hits (not (eqb (length image) (9 + 8 * countOf image + textOf image))) Length None (not-untrue _ (ne-eqb _ _ f)))))))
-  refuses (not-in-table {p = p} h m) = to-table h None (no-words (recordsOf image) p m) ∙ ap (λ (o : Option ℕ). refused 7 o None) (unknown-exactly (recordsOf image) p m)
+  refuses (not-in-table {p = p} h m) = to-table h None (no-tokens (recordsOf image) p m) ∙ ap (λ (o : Option ℕ). refused 7 o None) (unknown-exactly (recordsOf image) p m)
   refuses (cannot-follow {ws = ws} {r = r} {g = g} h k m) =
-      to-table h (Some ws) k ∙ ap (byGrammar (textOf image) ws) (no-card-read ws r g m) ∙ ap byPlace (found-misplaced (textBytes image) ws (some-words image ws h k) r g m)
+      to-table h (Some ws) k ∙ ap (byGrammar (textOf image) ws) (no-card-read ws r g m) ∙ ap byPlace (found-misplaced (textBytes image) ws (some-tokens image ws h k) r g m)
   refuses (wrong-number {ws = ws} {C = C} {p = p} h k s m) =
       to-table h (Some ws) k ∙ ap (byGrammar (textOf image) ws) (card-complete (textBytes image) ws C s) ∙ ap (byNumbers C) (misnumbered-exactly C (textOf image) ws p m)
   refuses (wrong-typing {C = C} {n = n} {p = p} f h) =
-      to-table (f .header) (Some (f .words)) (f .known) ∙ ap (byGrammar (textOf image) (f .words)) (card-complete (textBytes image) (f .words) C (f .spelt)) ∙ ap (byNumbers C) (f .in-order) ∙ ap (byTypes C) (first-broken image C f n p .1 h)
+      to-table (f .header) (Some (f .tokens)) (f .known) ∙ ap (byGrammar (textOf image) (f .tokens)) (card-complete (textBytes image) (f .tokens) C (f .spelt)) ∙ ap (byNumbers C) (f .in-order) ∙ ap (byTypes C) (first-broken image C f n p .1 h)
 
 pub refuses-exactly : Refuses-exactly
 refuses-exactly image n r g = (λ e. subst (Right image) e (right-header image (headerFault image) refl), refuses image)

@@ -45,7 +45,7 @@ module _ (t : List ℕ) where
     here : Join ps [] ps
     more : {q : Piece} {qs rs : List Piece} → Join ps qs rs → Join ps (q ∷ qs) (q ∷ rs)
 
-  -- one word more in front
+  -- one token more in front
   add : {p : ℕ} {w : Token} {ws : List Token} {qs rs ps : List Piece} → ((us : List Token) → Spells t (suc p) us qs → Spells t p (w ∷ us) rs) → Both qs ps (suc p) ws → Both rs ps p (w ∷ ws)
   add {p} {ps = ps} f (both {us = us} {vs = vs} a b) = both (f us a) (let e : suc p + length us ≡ p + suc (length us) = omega arith in subst (λ q. Spells t q vs ps) e b)
 
@@ -82,8 +82,8 @@ module _ (t : List ℕ) where
   joins (q ∷ qs) ps = more (joins qs ps)
 
   apart : {p : ℕ} {ws : List Token} {qs ps : List Piece} → Both qs ps p ws → Apart t p ws qs ps
-  apart (both {us = us} {vs = vs} a b) = record { front = us; back = vs; joined-words = refl; front-spells = a; back-spells = b }
+  apart (both {us = us} {vs = vs} a b) = record { front = us; back = vs; joined-tokens = refl; front-spells = a; back-spells = b }
 
 pub spelt-in-sequence : Spelt-in-sequence
 spelt-in-sequence t p ws qs ps =
-    (λ h. apart t (split t h (joins t qs ps)), λ a. subst (λ u. Spells t p u (qs ++ ps)) (sym (a .joined-words)) (join t (a .front-spells) (p + length (a .front)) refl (a .back-spells)))
+    (λ h. apart t (split t h (joins t qs ps)), λ a. subst (λ u. Spells t p u (qs ++ ps)) (sym (a .joined-tokens)) (join t (a .front-spells) (p + length (a .front)) refl (a .back-spells)))

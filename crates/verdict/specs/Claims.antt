@@ -16,15 +16,15 @@ use Rattle.verdict.specs.Formed.{FormedCard}
 use Rattle.verdict.specs.Breaks.{BreaksCard}
 use Rattle.verdict.specs.Verdict.{Verdict, accepted, refused, verdict, Form, Accepted, Refusal}
 
--- the reader gives a card exactly where the words spell it
+-- the reader gives a card exactly where the tokens spell it
 abbrev pub Reads-exactly : Type 0
 Reads-exactly = (t : List ℕ) (ws : List Token) (C : Card) → (cardOf t ws ≡ Some C) ↔ Spelt t ws C
 
--- words spell a card exactly if none is misplaced
+-- tokens spell a card exactly if none is misplaced
 abbrev pub Spelt-unless-misplaced : Type 0
 Spelt-unless-misplaced = (t : List ℕ) (ws : List Token) → 0 < length ws → (misplaced 0 [] ws ≡ None) ↔ ((C : Card) × Spelt t ws C)
 
--- the misplaced word is the first that no card has there
+-- the misplaced token is the first that no card has there
 abbrev pub Misplaced-first : Type 0
 Misplaced-first = (t : List ℕ) (ws : List Token) → 0 < length ws → (r : ℕ) (g : Option ℕ) → (misplaced 0 [] ws ≡ Some (r, g)) ↔ Misplaced t ws r g
 

@@ -79,10 +79,10 @@ pub record Header (image : List ℕ) : Type 0 where
 -- the bytes have the form of the card
 pub record Form (image : List ℕ) (C : Card) : Type 0 where
   pub header : Header image
-  pub words : List Token
-  pub known : tokensOf (recordsOf image) ≡ Some words
-  pub spelt : Spelt (textBytes image) words C
-  pub in-order : misnumbered C (textOf image) 0 none-seen words ≡ None
+  pub tokens : List Token
+  pub known : tokensOf (recordsOf image) ≡ Some tokens
+  pub spelt : Spelt (textBytes image) tokens C
+  pub in-order : misnumbered C (textOf image) 0 none-seen tokens ≡ None
 
 pub record Accepted (image : List ℕ) (m n : ℕ) : Type 0 where
   pub card : Card

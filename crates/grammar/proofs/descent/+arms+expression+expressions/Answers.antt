@@ -10,7 +10,7 @@ use Rattle.std.specs.declared.result.Result.the-variants.{Err}
 use Rattle.table.specs.declared.token.Head.the-variants.{Leaf, Pair, If, Match, Exit, Many}
 use Rattle.grammar.specs.Grammar.{want-type, want-expr, want-arms, expecting, parts}
 use Rattle.grammar.specs.Found.{afterArm}
-use Rattle.grammar.proofs.Steps.{word, told, step, stop, both, first, first-of, group-exprs}
+use Rattle.grammar.proofs.Steps.{token, told, step, stop, both, first, first-of, group-exprs}
 use Rattle.grammar.proofs.descent.+arms+expression+expressions.Needs as need
 
 pub arms-returns-then-not-branch : need.arms-returns-then-not-branch
@@ -18,7 +18,7 @@ arms-returns-then-not-branch t c =
     record {
       ends = search needs;
       is =
-          word (c .args .tokens .now) (c .args .at) (λ K. want-arms (c .args .matching) (c .args .some) ∷ K) (Some (c .args .matching))
+          token (c .args .tokens .now) (c .args .at) (λ K. want-arms (c .args .matching) (c .args .some) ∷ K) (Some (c .args .matching))
           (told (c .args .tokens .now) (c .args .at) (λ K. want-arms (c .args .matching) (c .args .some) ∷ K) (afterArm (c .args .matching)) (c .in-Continue-arm .field-0) false (c .in-Continue-arm .ensures tt .1) (c .if-not-branch .taken));
     }
 
@@ -62,7 +62,7 @@ expression-returns-in-Leaf t c =
     record {
       ends = search needs;
       is =
-          word (c .args .tokens .now) (c .args .at) (λ K. want-expr ∷ K) (c .args .group)
+          token (c .args .tokens .now) (c .args .at) (λ K. want-expr ∷ K) (c .args .group)
           (told (c .args .tokens .now) (c .args .at) (λ K. want-expr ∷ K) (λ h K. parts (c .args .at) K h) (c .in-Continue-head .field-0) (Leaf (c .in-Leaf .field-0)) (c .in-Continue-head .ensures tt .1) (c .in-Leaf .is));
     }
 

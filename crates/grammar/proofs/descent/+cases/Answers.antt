@@ -9,7 +9,7 @@ use Rattle.std.specs.declared.option.Option.the-variants.{Some, None}
 use Rattle.std.specs.declared.result.Result.the-variants.{Err}
 use Rattle.grammar.specs.Grammar.{want-type, want-cases, expecting}
 use Rattle.grammar.specs.Found.{afterCase}
-use Rattle.grammar.proofs.Steps.{word, told, step, stop, both, first, group-types}
+use Rattle.grammar.proofs.Steps.{token, told, step, stop, both, first, group-types}
 use Rattle.grammar.proofs.descent.+cases.Needs as need
 
 pub returns-in-None : need.returns-in-None
@@ -17,7 +17,7 @@ returns-in-None t c =
     record {
       ends = search needs;
       is =
-          word (c .args .tokens .now) (c .args .at) (λ K. want-cases (c .args .enumeration) (c .args .some) ∷ K) (Some (c .args .enumeration))
+          token (c .args .tokens .now) (c .args .at) (λ K. want-cases (c .args .enumeration) (c .args .some) ∷ K) (Some (c .args .enumeration))
           (told (c .args .tokens .now) (c .args .at) (λ K. want-cases (c .args .enumeration) (c .args .some) ∷ K) (afterCase (c .args .enumeration)) (c .in-Continue-case .field-0) None (c .in-Continue-case .ensures tt .1) (c .in-None .is));
     }
 

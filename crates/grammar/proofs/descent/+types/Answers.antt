@@ -5,7 +5,7 @@ use Prim.Native.Nat.{_+_, _-_}
 use Rattle.std.proofs.shelf.Results.{err-from-errBy}
 use Rattle.std.specs.declared.result.Result.the-variants.{Err}
 use Rattle.grammar.specs.Grammar.{want-type, expecting}
-use Rattle.grammar.proofs.Steps.{word, stop, both, first, first-of}
+use Rattle.grammar.proofs.Steps.{token, stop, both, first, first-of}
 use Rattle.grammar.proofs.descent.+types.Needs as need
 
 pub returns : need.returns
@@ -14,7 +14,7 @@ returns t c =
       ends = search needs;
       is =
           first-of (c .args .tokens .now) (c .args .at) (c .args .n) want-type (c .args .group) (c .types .result) (c .if-n-eq0 .left)
-          (both (c .args .tokens .now) (c .args .at) (c .args .at + 1) (λ K. want-type ∷ K) (expecting (c .args .n - 1) want-type) (c .args .group) (c .args .group) (c .types .result) (word (c .args .tokens .now) (c .args .at) (λ K. want-type ∷ K) (c .args .group) (c .in-Continue-ty .ensures tt .1)) (λ K h. h) (c .types .ensures .is));
+          (both (c .args .tokens .now) (c .args .at) (c .args .at + 1) (λ K. want-type ∷ K) (expecting (c .args .n - 1) want-type) (c .args .group) (c .args .group) (c .types .result) (token (c .args .tokens .now) (c .args .at) (λ K. want-type ∷ K) (c .args .group) (c .in-Continue-ty .ensures tt .1)) (λ K h. h) (c .types .ensures .is));
     }
 
 pub returns-in-Break-ty : need.returns-in-Break-ty

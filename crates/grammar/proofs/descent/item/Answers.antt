@@ -7,7 +7,7 @@ use Rattle.std.proofs.shelf.Results.{err-from-errBy}
 use Rattle.std.specs.declared.option.Option.the-variants.{Some}
 use Rattle.std.specs.declared.result.Result.the-variants.{Ok, Err}
 use Rattle.grammar.specs.Grammar.{want-close, want-cases}
-use Rattle.grammar.proofs.Steps.{word, stop, goes, no-item, def-opens, def-goes}
+use Rattle.grammar.proofs.Steps.{token, stop, goes, no-item, def-opens, def-goes}
 use Rattle.grammar.proofs.descent.item.Needs as need
 
 pub returns-in-Some-Enum : need.returns-in-Some-Enum
@@ -20,7 +20,7 @@ returns-in-Continue-close c =
     record {
       ends = search needs;
       is =
-          body ∙ word (c .args .tokens .now) (c .in-Continue-end .end) (λ K. want-close (c .args .at) ∷ K) (Some (c .args .at)) (c .in-Continue-close .ensures tt .1) [] refl;
+          body ∙ token (c .args .tokens .now) (c .in-Continue-end .end) (λ K. want-close (c .args .at) ∷ K) (Some (c .args .at)) (c .in-Continue-close .ensures tt .1) [] refl;
     }
 
 pub returns-in-Break-body : need.returns-in-Break-body
