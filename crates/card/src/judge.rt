@@ -91,7 +91,7 @@ fn judged(layout: &Layout<'_>, texts: usize) -> Result<Counts, Fault>
 }
 
 // The layers behind the header, with room for as many tokens as there are records.
-pub fn read(image: &[u8], header: Header, room: &mut [Token]) -> Result<Counts, Fault>
+pub(crate) fn read(image: &[u8], header: Header, room: &mut [Token]) -> Result<Counts, Fault>
     requires header { ⌜ headerFault (now image) ≡ None ⌝ }
     requires texts { ⌜ header .texts ≡ textOf (now image) ⌝ }
     requires room { ⌜ length (now room) ≡ countOf (now image) ⌝ }

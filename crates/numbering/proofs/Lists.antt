@@ -35,8 +35,6 @@ module _ {A : Type 0} where
   drop-at zero (x ∷ as′) e = ap (λ (a : A). a ∷ as′) (Some≡ e)
   drop-at (suc p) (x ∷ as′) e = drop-at p as′ e
 
-
-
   -- one list and then another
   at-left : (as′ bs : List A) (i : ℕ) → i < length as′ → at (as′ ++ bs) i ≡ at as′ i
   at-left [] bs i h = absurd (omega arith)

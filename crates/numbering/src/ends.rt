@@ -95,7 +95,7 @@ impl Filled<'_, '_> {
 }
 
 // The place after each expression: what is behind a place is known before it.
-pub fn ends(tokens: Tokens<'_>) -> [u16; 512]
+pub(crate) fn ends(tokens: Tokens<'_>) -> [u16; 512]
     ensures ends { λ r. ⌜ Ends (now (tokens .entry .list)) r ⌝ }
     ensures whole { λ r. ⌜ length r ≡ 512 ⌝ }
 {

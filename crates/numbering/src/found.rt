@@ -42,7 +42,7 @@ impl Found {
         }
     }
 
-    pub fn of(tokens: Tokens<'_>) -> Found
+    pub(crate) fn of(tokens: Tokens<'_>) -> Found
         ensures firsts { λ r. ⌜ listed (r .firsts) ≡ firstsIn 0 (now (tokens .entry .list)) ⌝ }
         ensures cases { λ r. ⌜ listed (r .cases) ≡ casesIn 0 (now (tokens .entry .list)) ⌝ }
         ensures functions { λ r. ⌜ listed (r .functions) ≡ functionsIn 0 (now (tokens .entry .list)) ⌝ }

@@ -20,7 +20,7 @@ pub fn same(a: Ty, b: Ty) -> bool
     a == b
 }
 
-pub fn all_same(a: &[Ty], b: &[Ty]) -> bool
+pub(crate) fn all_same(a: &[Ty], b: &[Ty]) -> bool
     ensures { λ r. ⌜ r ≡ sameTys (now (a .entry)) (now (b .entry)) ⌝ }
 {
     if a.len() != b.len() {
@@ -70,7 +70,7 @@ fn mistyped(at: usize, ty: Option<Ty>) -> Result<Ty, TypeFault>
     }
 }
 
-pub fn pair_rule(at: usize, pair: Pair, parts: &[Ty]) -> Result<Ty, TypeFault>
+pub(crate) fn pair_rule(at: usize, pair: Pair, parts: &[Ty]) -> Result<Ty, TypeFault>
     ensures { λ r. ⌜ checkedBy r ≡ pairRule at pair (now (parts .entry)) ⌝ }
 {
     match parts {
@@ -79,7 +79,7 @@ pub fn pair_rule(at: usize, pair: Pair, parts: &[Ty]) -> Result<Ty, TypeFault>
     }
 }
 
-pub fn if_rule(at: usize, parts: &[Ty]) -> Result<Ty, TypeFault>
+pub(crate) fn if_rule(at: usize, parts: &[Ty]) -> Result<Ty, TypeFault>
     ensures { λ r. ⌜ checkedBy r ≡ ifRule at (now (parts .entry)) ⌝ }
 {
     match parts {
@@ -89,7 +89,12 @@ pub fn if_rule(at: usize, parts: &[Ty]) -> Result<Ty, TypeFault>
 }
 
 // As many parts as declared, and then of the types declared.
-pub fn declared_rule(at: usize, parts: &[Ty], declared: &[Ty], result: Ty) -> Result<Ty, TypeFault>
+pub(crate) fn declared_rule(
+    at: usize,
+    parts: &[Ty],
+    declared: &[Ty],
+    result: Ty,
+) -> Result<Ty, TypeFault>
     ensures { λ r. ⌜ checkedBy r ≡ declaredRule at (now (parts .entry)) (now (declared .entry)) result ⌝ }
 {
     if parts.len() != declared.len() {

@@ -51,7 +51,7 @@ fn more_types(card: &Layout<'_>, from: usize, n: u8, mut types: Types) -> Types
 }
 
 // The fields of an enum's case, if it is there.
-pub fn case_types(card: &Layout<'_>, of: u16, case: u8) -> Option<Types>
+pub(crate) fn case_types(card: &Layout<'_>, of: u16, case: u8) -> Option<Types>
     ensures { λ r. ⌜ OnCard (tokensIn (now (card .entry))) (λ C. SameTypes r (caseOf C of case)) ⌝ }
 {
     match card.case(of, case) {

@@ -55,7 +55,7 @@ pub fn type_at(card: &Layout<'_>, place: usize) -> Option<Ty>
     }
 }
 
-pub fn fields_at(card: &Layout<'_>, place: usize) -> Option<u8>
+pub(crate) fn fields_at(card: &Layout<'_>, place: usize) -> Option<u8>
     ensures { λ r. ⌜ r ≡ fieldCount (at (tokensIn (now (card .entry))) place) ⌝ }
 {
     match token(card, place) {
@@ -64,7 +64,7 @@ pub fn fields_at(card: &Layout<'_>, place: usize) -> Option<u8>
     }
 }
 
-pub fn parameters_at(card: &Layout<'_>, place: usize) -> Option<u8>
+pub(crate) fn parameters_at(card: &Layout<'_>, place: usize) -> Option<u8>
     ensures { λ r. ⌜ r ≡ parameterCount (at (tokensIn (now (card .entry))) place) ⌝ }
 {
     match token(card, place) {

@@ -44,7 +44,7 @@ fn fault(broken: Broken, record: usize) -> TypeFault
 
 // The type of the expression at a place, and the place behind it. Names are bound behind the first `bound` entries,
 // which stay as they are: four for each record to come are room enough.
-pub fn expression(
+pub(crate) fn expression(
     card: &Layout<'_>,
     at: usize,
     scope: &mut [Entry<Ty>],

@@ -8,7 +8,7 @@ ghost use Rattle.numbering.specs.Listed.{listed};
 use super::Places;
 
 impl Places {
-    pub fn new() -> Places
+    pub(crate) fn new() -> Places
         ensures { λ r. ⌜ listed r ≡ [] ⌝ }
     {
         Places {
@@ -18,7 +18,7 @@ impl Places {
     }
 
     // Where there is no room left, nothing is done.
-    pub fn push(&mut self, place: u16)
+    pub(crate) fn push(&mut self, place: u16)
         ensures { λ _. ⌜ listed (now (self .exit)) ≡ cond (ltb (length (listed (now (self .entry)))) 512) (listed (now (self .entry)) ++ place ∷ []) (listed (now (self .entry))) ⌝ }
     {
         let next = self.len;
@@ -28,13 +28,13 @@ impl Places {
         }
     }
 
-    pub fn len(&self) -> usize
+    pub(crate) fn len(&self) -> usize
         ensures { λ r. ⌜ r ≡ length (listed (now (self .entry))) ⌝ }
     {
         self.len
     }
 
-    pub fn get(&self, i: usize) -> Option<usize>
+    pub(crate) fn get(&self, i: usize) -> Option<usize>
         ensures { λ r. ⌜ r ≡ at (listed (now (self .entry))) i ⌝ }
     {
         if i < self.len {
