@@ -1,6 +1,5 @@
 -- What a card's functions are written in.
-use mathlib.Core.Path.{_≡_}
-use mathlib.Core.Bool.{Bool, true, false, cond}
+use mathlib.Core.Bool.{Bool, false, cond}
 use mathlib.Core.List.{List, [], _∷_}
 use Rattle.std.specs.declared.option.Option.{Option}
 use Rattle.std.specs.declared.option.Option.the-variants.{Some, None}
@@ -9,7 +8,7 @@ use lib.Dec.{eqb}
 use lib.IntN.{ℤ, pos, negsuc}
 use lib.Signed.{leZ}
 use Rattle.battery.specs.declared.Ty.{Ty}
-use Rattle.battery.specs.declared.Ty.the-variants.{Unit as unit, Number as number, Boolean as boolean, Text as text, Enum as enum}
+use Rattle.battery.specs.declared.Ty.the-variants.{Enum as enum}
 use Rattle.battery.specs.declared.Arith.{Arith}
 
 abbrev pub _▸_ : {A B : Type 0} → Option A → (A → Option B) → Option B

@@ -16,10 +16,10 @@ use Rattle.table.specs.declared.row.Row.{Row}
 use Rattle.table.specs.declared.row.Parts.{Parts}
 use Rattle.table.specs.declared.row.Parts.the-variants.{Nothing, Two, Three, AsMany, OneAndArms, TypeAndOne, Grouped}
 use Rattle.table.specs.declared.token.Token.{Token}
-use Rattle.table.specs.declared.token.Token.the-variants.{Close as CLOSE, Enum as ENUM, Case as CASE, Def as DEF, Ty as TYPE, Arm as ARM, Expr as EXPR}
+use Rattle.table.specs.declared.token.Token.the-variants.{Close as CLOSE, Enum as ENUM, Case as CASE, Def as DEF, Ty as TYPE, Arm as ARM}
 use Rattle.table.specs.declared.token.Leaf.the-variants.{Unit as UNIT, Number as NUM, Boolean as BOOL, Text as STR, Local as LOCAL}
 use Rattle.table.specs.Rows.{row, number, rowAt, fits}
-use Rattle.table.specs.Naming.{natOf, small, typeNamed, leafOf, groupedOf, named, tokenOf, tokensOf}
+use Rattle.table.specs.Naming.{small, typeNamed, leafOf, groupedOf, named, tokenOf, tokensOf}
 use Rattle.numbering.specs.Limits.{LimitedLeaf, Limited, AllLimited}
 use Rattle.numbering.proofs.Options.{never, Some≡, through, both, false≢true}
 

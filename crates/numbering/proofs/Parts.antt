@@ -8,7 +8,7 @@ use lib.ListN.{length}
 use Rattle.std.specs.declared.option.Option.{Option}
 use Rattle.std.specs.declared.option.Option.the-variants.{Some, None}
 use Rattle.battery.specs.declared.Ty.{Ty}
-use Rattle.battery.specs.Tree.{Expr, If, Match, Exit, Exprs, ∅, _&_, Arms, no-arm, arm, Fn, _▸_}
+use Rattle.battery.specs.Tree.{Expr, If, Match, Exit, Exprs, ∅, _&_, Arms, no-arm, arm, _▸_}
 use Rattle.table.specs.declared.token.Token.{Token}
 use Rattle.table.specs.declared.token.Token.the-variants.{Close as CLOSE, Enum as ENUM, Case as CASE, Def as DEF, Ty as TYPE, Arm as ARM, Expr as EXPR}
 use Rattle.table.specs.declared.token.Head.{Head}
@@ -16,8 +16,8 @@ use Rattle.table.specs.declared.token.Head.the-variants.{Leaf as LEAF, Pair as 
 use Rattle.table.specs.declared.token.Leaf.{Leaf}
 use Rattle.table.specs.declared.token.Pair.{Pair}
 use Rattle.table.specs.declared.token.Many.{Many}
-use Rattle.grammar.specs.Grammar.{Piece, close, type, expr, cases, arms, an-enum, a-fn, leafAt, pairAt, manyAt, types, exprs, count, fnAt, takeExpr, takeType, takeClose, takeCases, takeArms, orClose, takeExprs, takeTypes, joinedExpr, joined, piecesOf}
-use Rattle.numbering.proofs.Options.{never, Some≡, Through, through}
+use Rattle.grammar.specs.Grammar.{Piece, close, type, expr, cases, arms, an-enum, a-fn, leafAt, pairAt, manyAt, types, exprs, count, takeExpr, takeType, takeClose, takeCases, takeArms, orClose, takeExprs, takeTypes, joinedExpr, joined, piecesOf}
+use Rattle.numbering.proofs.Options.{never, Some≡, through}
 
 -- what a piece was taken from
 pub took-expr : (ps : List Piece) (x : Expr × List Piece) → takeExpr ps ≡ Some x → ps ≡ expr (x .0) ∷ x .1

@@ -1,7 +1,6 @@
 -- The table of ends leads behind an expression, and behind a MATCH's arms.
 use mathlib.Core.Path.{_≡_, refl, sym, _∙_, ap, subst}
 use mathlib.Core.Bool.{cond}
-use mathlib.Core.Logic.{_⊎_, inl, inr}
 use mathlib.Core.List.{List, [], _∷_}
 use Prim.Native.Nat.{ℕ, suc, _<_, _≤_}
 use native.Mathlib.Omega.{arith}
@@ -9,13 +8,11 @@ use lib.ListN.{length, drop, getD}
 use borrow.Author.Tests.{lt-ltb}
 use Rattle.std.specs.declared.option.Option.{Option}
 use Rattle.std.specs.declared.option.Option.the-variants.{Some, None}
-use Rattle.battery.specs.Tree.{Exprs, ∅, _&_, Arms, no-arm, at}
+use Rattle.battery.specs.Tree.{Exprs, ∅, _&_, at}
 use Rattle.table.specs.declared.token.Token.{Token}
 use Rattle.table.specs.declared.token.Token.the-variants.{Close as CLOSE, Enum as ENUM, Case as CASE, Def as DEF, Ty as TYPE, Arm as ARM, Expr as EXPR}
-use Rattle.grammar.specs.Grammar.{Piece, close, type, expr, cases, arms, an-enum, a-fn, exprs, count, Spells, s-end, s-close, s-type, s-leaf, s-pair, s-if, s-many, s-match, s-last-arm, s-arm, s-exit, s-last-case, s-case, s-enum, s-def, piecesOf, takeArms}
+use Rattle.grammar.specs.Grammar.{Piece, close, type, expr, cases, arms, an-enum, a-fn, exprs, count, Spells, s-end, s-close, s-type, s-leaf, s-pair, s-if, s-many, s-match, s-last-arm, s-arm, s-exit, s-last-case, s-case, s-enum, s-def, piecesOf}
 use Rattle.numbering.specs.Ends.{look, times, isClose, past, Ends}
-use Rattle.numbering.proofs.Options.{through}
-use Rattle.numbering.proofs.Parts.{took-arms, or-close, armsFrom}
 use Rattle.numbering.proofs.Standing.{Skips}
 use Rattle.numbering.proofs.Indexed.{at-below}
 use Rattle.numbering.proofs.Lists.{at-drop, drop-next}

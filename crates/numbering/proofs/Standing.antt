@@ -1,6 +1,6 @@
 -- What stands at a place: a case with its fields, a function with its types and its body.
 use mathlib.Core.Path.{_≡_}
-use mathlib.Core.List.{List, [], _∷_}
+use mathlib.Core.List.{List, _∷_}
 use Prim.Native.Nat.{ℕ, suc, _+_, _<_, _≤_}
 use lib.ListN.{length, drop}
 use Rattle.std.specs.declared.option.Option.{Option}

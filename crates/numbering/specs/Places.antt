@@ -1,17 +1,15 @@
 -- Where a card's enums, cases and functions stand, and where an expression ends: found once, in one pass each.
-use mathlib.Core.Bool.{Bool, cond}
+use mathlib.Core.Bool.{cond}
 use mathlib.Core.List.{List, [], _∷_}
 use Prim.Native.Nat.{ℕ, zero, suc, _+_, _-_}
 use lib.Dec.{ltb}
-use lib.ListN.{length, getD, drop}
+use lib.ListN.{length}
 use Rattle.std.specs.declared.option.Option.{Option}
 use Rattle.std.specs.declared.option.Option.the-variants.{Some, None}
 use Rattle.battery.specs.declared.Ty.{Ty}
 use Rattle.battery.specs.Tree.{at, _▸_}
 use Rattle.table.specs.declared.token.Token.{Token}
 use Rattle.table.specs.declared.token.Token.the-variants.{Close as CLOSE, Enum as ENUM, Case as CASE, Def as DEF, Ty as TYPE, Arm as ARM, Expr as EXPR}
-use Rattle.table.specs.declared.token.Head.{Head}
-use Rattle.table.specs.declared.token.Head.the-variants.{Leaf as LEAF, Pair as PAIR, If as IF, Match as MATCH, Exit as EXIT, Many as MANY}
 
 -- for each ENUM, how many CASEs of the card stand before its own
 abbrev pub firstsIn : ℕ → List Token → List ℕ

@@ -1,7 +1,7 @@
 -- The types of a case or a function, by the tokens at its place.
-use mathlib.Core.Path.{_≡_, refl, sym, _∙_, ap, subst}
-use mathlib.Core.List.{List, [], _∷_, _++_, append-nil}
-use Prim.Native.Nat.{ℕ, zero, suc, _+_, _<_, _≤_}
+use mathlib.Core.Path.{_≡_, sym, _∙_, ap, subst}
+use mathlib.Core.List.{List, [], _++_}
+use Prim.Native.Nat.{ℕ, suc, _+_, _≤_}
 use native.Mathlib.Omega.{arith}
 use lib.ListN.{length, drop}
 use Rattle.std.specs.declared.option.Option.{Option}
@@ -10,12 +10,10 @@ use Rattle.battery.specs.declared.Ty.{Ty}
 use Rattle.battery.specs.Tree.{Fn, Card, at, _▸_}
 use Rattle.table.specs.declared.token.Token.{Token}
 use Rattle.table.specs.declared.token.Token.the-variants.{Case as CASE, Def as DEF, Ty as TYPE}
-use Rattle.grammar.specs.Grammar.{cardOf}
 use Rattle.numbering.specs.Limits.{AllLimited}
 use Rattle.numbering.specs.Numbering.{caseOf}
 use Rattle.numbering.specs.Places.{functionsIn, casePlace, typesIn}
 use Rattle.numbering.specs.Views.{OnCard}
-use Rattle.numbering.proofs.Options.{never, Some≡}
 use Rattle.numbering.proofs.Bounds.{limited-at}
 use Rattle.numbering.proofs.Declared.{case-at, function-at}
 use Rattle.rules.specs.declared.types.Types.{Types}
@@ -25,7 +23,7 @@ use Rattle.rules.specs.Places.{fieldCount, parameterCount, typeOf}
 use Rattle.verdict.specs.Order.{fieldsOf}
 use Rattle.rules.specs.Standing.{TypesAt, OfEnum}
 use Rattle.rules.specs.Signatures.{SameTypes, SameSignature, Declares, DeclaredAt}
-use Rattle.rules.proofs.Backs.{fields-is, fields-not, parameters-is, parameters-not, type-is, type-not}
+use Rattle.rules.proofs.Backs.{fields-is, fields-not, parameters-is, type-is}
 use Rattle.rules.proofs.Walks.{matched-some, matched-none}
 
 module _ (ws : List Token) where

@@ -1,17 +1,15 @@
 -- A head that types its parts in one scope: its rule over the types of its parts.
-use mathlib.Core.Path.{_≡_, refl, sym, _∙_, ap, subst}
-use mathlib.Core.Bool.{Bool, true, false, cond, _&&_}
+use mathlib.Core.Path.{_≡_, refl, _∙_, ap}
+use mathlib.Core.Bool.{Bool, true, false, _&&_}
 use mathlib.Core.List.{List, [], _∷_}
-use Prim.Native.Nat.{ℕ, zero, suc, _<_, _≤_}
+use Prim.Native.Nat.{ℕ, suc}
 use native.Mathlib.Omega.{arith}
-use lib.ListN.{length, drop}
-use Rattle.std.specs.declared.option.Option.{Option}
-use Rattle.std.specs.declared.option.Option.the-variants.{Some, None}
+use Rattle.std.specs.declared.option.Option.the-variants.{Some}
 use Rattle.battery.specs.declared.Ty.{Ty}
-use Rattle.battery.specs.declared.Ty.the-variants.{Unit as unit, Number as number, Boolean as boolean, Text as text, Enum as enum}
-use Rattle.battery.specs.Tree.{Expr, Unit′, Num, Bool′, Str, Local, Calc, Concat, Eq, Lt, Seq, If, Val, Call, Make, Match, Exit, Exprs, ∅, _&_, Arms, Scope, find, Card, at, _▸_}
+use Rattle.battery.specs.declared.Ty.the-variants.{Number as number, Boolean as boolean, Text as text}
+use Rattle.battery.specs.Tree.{Expr, If, Exprs, ∅, _&_, Scope, Card}
 use Rattle.table.specs.declared.token.Token.{Token}
-use Rattle.table.specs.declared.token.Token.the-variants.{Close as CLOSE, Enum as ENUM, Case as CASE, Def as DEF, Ty as TYPE, Arm as ARM, Expr as EXPR}
+use Rattle.table.specs.declared.token.Token.the-variants.{Expr as EXPR}
 use Rattle.table.specs.declared.token.Head.{Head}
 use Rattle.table.specs.declared.token.Head.the-variants.{Leaf as LEAF, Pair as PAIR, If as IF, Match as MATCH, Exit as EXIT, Many as MANY}
 use Rattle.table.specs.declared.token.Pair.{Pair}
@@ -19,11 +17,9 @@ use Rattle.table.specs.declared.token.Pair.the-variants.{Calc as CALC, Concat a
 use Rattle.table.specs.declared.token.Many.{Many}
 use Rattle.table.specs.declared.token.Many.the-variants.{Call as CALL, Make as MAKE}
 use Rattle.grammar.specs.Grammar.{Piece, expr, exprs, count, pairAt, manyAt, piecesOf}
-use Rattle.numbering.specs.Numbering.{caseOf}
-use Rattle.numbering.proofs.Options.{never, Some≡}
 use Rattle.numbering.proofs.Parts.{of-pair, of-if, of-many}
-use Rattle.verdict.specs.Order.{Checked, has, fault, _▹_, rule, there, sameTy, sameTys, check, checkAll}
-use Rattle.rules.specs.Rules.{given, pairType, ifType, pairRule, ifRule, declaredRule, manyRule, ruled, partsOf}
+use Rattle.verdict.specs.Order.{Checked, has, fault, _▹_, rule, there, sameTy, check, checkAll}
+use Rattle.rules.specs.Rules.{given, pairType, pairRule, ifRule, manyRule, ruled, partsOf}
 
 -- all heads but leaves, VAL, MATCH and EXIT
 abbrev pub plain : Head → Bool

@@ -1,36 +1,33 @@
 -- One step of typing: what a head's answer is, from the answers at its parts.
 use mathlib.Core.Path.{_≡_, refl, sym, _∙_, ap, subst}
-use mathlib.Core.Bool.{Bool, true, false, cond, _&&_}
+use mathlib.Core.Bool.{Bool, true, false, _&&_}
 use mathlib.Core.List.{List, [], _∷_}
-use Prim.Native.Nat.{ℕ, zero, suc, _<_, _≤_}
+use Prim.Native.Nat.{ℕ, zero, suc}
 use native.Mathlib.Omega.{arith}
-use lib.Dec.{eqb}
 use lib.ListN.{length, drop}
 use Rattle.std.specs.declared.option.Option.{Option}
 use Rattle.std.specs.declared.option.Option.the-variants.{Some, None}
 use Rattle.std.specs.declared.result.Result.{Result}
 use Rattle.std.specs.declared.result.Result.the-variants.{Ok, Err}
 use Rattle.battery.specs.declared.Ty.{Ty}
-use Rattle.battery.specs.declared.Ty.the-variants.{Unit as unit, Number as number, Boolean as boolean, Text as text, Enum as enum}
-use Rattle.battery.specs.Tree.{Expr, Unit′, Num, Bool′, Str, Local, Val, Match, Exit, Exprs, ∅, _&_, Arms, no-arm, arm, Scope, find, bind, Card, at, _▸_}
-use Rattle.battery.specs.Typing.{arms-of}
+use Rattle.battery.specs.declared.Ty.the-variants.{Text as text, Enum as enum}
+use Rattle.battery.specs.Tree.{Expr, Match, Exit, ∅, _&_, Arms, no-arm, arm, Scope, bind, Card, at, _▸_}
 use Rattle.table.specs.declared.token.Token.{Token}
-use Rattle.table.specs.declared.token.Token.the-variants.{Close as CLOSE, Enum as ENUM, Case as CASE, Def as DEF, Ty as TYPE, Arm as ARM, Expr as EXPR}
+use Rattle.table.specs.declared.token.Token.the-variants.{Close as CLOSE, Ty as TYPE, Arm as ARM, Expr as EXPR}
 use Rattle.table.specs.declared.token.Head.{Head}
-use Rattle.table.specs.declared.token.Head.the-variants.{Leaf as LEAF, Pair as PAIR, If as IF, Match as MATCH, Exit as EXIT, Many as MANY}
+use Rattle.table.specs.declared.token.Head.the-variants.{Leaf as LEAF, Pair as PAIR, Match as MATCH, Exit as EXIT}
 use Rattle.table.specs.declared.token.Leaf.{Leaf}
 use Rattle.table.specs.declared.token.Leaf.the-variants.{Unit as UNIT, Number as NUM, Boolean as BOOL, Text as STR, Local as LOCAL}
 use Rattle.table.specs.declared.token.Pair.the-variants.{Val as VAL}
-use Rattle.grammar.specs.Grammar.{Piece, close, type, expr, exprs, count, arms, leafAt, takeArms, orClose, cardOf, piecesOf}
+use Rattle.grammar.specs.Grammar.{Piece, type, expr, exprs, arms, leafAt, takeArms, orClose, cardOf, piecesOf}
 use Rattle.numbering.proofs.Lists.{drop-at}
-use Rattle.numbering.proofs.Options.{never, Some≡, through}
+use Rattle.numbering.proofs.Options.{never, Some≡}
 use Rattle.numbering.proofs.Parts.{behind, no-expr, only-type, of-leaf, of-pair, of-match, of-exit, of-arm, of-no-arm, arms-first, ArmsToken, is-close, is-arm, arms-token, some-arm, Armed}
 use Rattle.verdict.specs.Order.{Checked, has, fault, _▹_, rule, there, sameTy, enumOf, check, checkAll, checkArms, allAs, allOnce, armsNamed, fieldsOf, common}
-use Rattle.rules.specs.declared.fault.Broken.{Broken}
-use Rattle.rules.specs.declared.fault.Broken.the-variants.{Unbound, Mistyped, Count, Arms as OfArms}
+use Rattle.rules.specs.declared.fault.Broken.the-variants.{Mistyped, Arms as OfArms}
 use Rattle.rules.specs.declared.fault.TypeFault.{TypeFault}
 use Rattle.rules.specs.Rules.{ruled, partsOf, leafRule}
-use Rattle.rules.specs.Typed.{typeNumber, checkedBy, Gave, TypedAt, PartsAt, armsFrom, FitAt, GaveArm, ArmAt, GaveArms, ArmsAt}
+use Rattle.rules.specs.Typed.{typeNumber, TypedAt, PartsAt, armsFrom, FitAt, ArmAt, GaveArms, ArmsAt}
 use Rattle.rules.proofs.Nodes.{plain, node}
 
 pub behind-at : (ws : List Token) (p : ℕ) (w : Token) → at ws p ≡ Some w → drop p ws ≡ w ∷ drop (suc p) ws

@@ -2,7 +2,7 @@
 use mathlib.Core.Path.{_≡_, refl, sym, _∙_, ap, subst}
 use mathlib.Core.Bool.{Bool, true, false, cond, _&&_}
 use mathlib.Core.List.{List, [], _∷_}
-use Prim.Native.Nat.{ℕ, zero, suc, _+_, _<_, _≤_, max}
+use Prim.Native.Nat.{ℕ, zero, suc, _+_, _<_, max}
 use native.Mathlib.Omega.{arith}
 use lib.Dec.{eqb, ltb}
 use lib.ListN.{length, drop, getD}
@@ -10,18 +10,18 @@ use borrow.Author.Tests.{eq-eqb, ne-eqb, lt-ltb}
 use Rattle.std.specs.declared.option.Option.{Option}
 use Rattle.std.specs.declared.option.Option.the-variants.{Some, None}
 use Rattle.battery.specs.declared.Ty.{Ty}
-use Rattle.battery.specs.Tree.{Expr, Arms, no-arm, arm, Card, at, _▸_}
+use Rattle.battery.specs.Tree.{Arms, no-arm, arm, Card, at, _▸_}
 use Rattle.battery.specs.Typing.{arms-of}
 use Rattle.table.specs.declared.token.Token.{Token}
-use Rattle.table.specs.declared.token.Token.the-variants.{Close as CLOSE, Case as CASE, Arm as ARM}
-use Rattle.grammar.specs.Grammar.{Piece, expr, takeArms, orClose, cardOf, piecesOf}
-use Rattle.numbering.specs.Places.{caseCount, casePlace}
+use Rattle.table.specs.declared.token.Token.the-variants.{Arm as ARM}
+use Rattle.grammar.specs.Grammar.{Piece, takeArms, orClose, piecesOf}
+use Rattle.numbering.specs.Places.{casePlace}
 use Rattle.numbering.specs.Ends.{Ends}
 use Rattle.numbering.specs.Numbering.{caseOf}
 use Rattle.numbering.proofs.Options.{never, Some≡}
 use Rattle.numbering.proofs.Standing.{Matched, neither, each}
 use Rattle.numbering.proofs.Skip.{skips}
-use Rattle.numbering.proofs.Declared.{case-at, cases-counted}
+use Rattle.numbering.proofs.Declared.{case-at}
 use Rattle.verdict.specs.Order.{allOnce, armsNamed, asFields}
 use Rattle.rules.specs.Typed.{armsFrom, FitAt}
 use Rattle.rules.specs.Standing.{NextAt, CountAt, OnceAt, OfEnum, NamedAt}

@@ -1,5 +1,4 @@
 -- What stands at a place: a head, an arm, a type, or the count of a case's fields or a function's parameters.
-use mathlib.Core.Bool.{Bool, true, false}
 use Prim.Native.Nat.{ℕ}
 use Rattle.std.specs.declared.option.Option.{Option}
 use Rattle.std.specs.declared.option.Option.the-variants.{Some, None}

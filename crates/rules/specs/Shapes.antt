@@ -1,5 +1,4 @@
 -- How a head's parts are typed: none, in a scope that grows, behind a type, as arms, or all in one scope.
-use Prim.Native.Nat.{ℕ}
 use Rattle.table.specs.declared.token.Head.{Head}
 use Rattle.table.specs.declared.token.Head.the-variants.{Leaf as LEAF, Pair as PAIR, If as IF, Match as MATCH, Exit as EXIT, Many as MANY}
 use Rattle.table.specs.declared.token.Pair.the-variants.{Calc as CALC, Concat as CONCAT, Eq as EQ, Lt as LT, Seq as SEQ, Val as VAL}

@@ -1,17 +1,17 @@
 -- What a walk over a MATCH's arms answers, for every card that the tokens spell.
 use mathlib.Core.Path.{_≡_}
-use mathlib.Core.Bool.{Bool, _&&_}
-use mathlib.Core.List.{List, [], _∷_, _++_}
+use mathlib.Core.Bool.{Bool}
+use mathlib.Core.List.{List, _∷_, _++_}
 use Prim.Native.Nat.{ℕ, suc, _+_, _≤_}
 use lib.ListN.{length, drop}
-use Rattle.std.specs.declared.option.Option.the-variants.{Some, None}
+use Rattle.std.specs.declared.option.Option.the-variants.{Some}
 use Rattle.battery.specs.declared.Ty.{Ty}
 use Rattle.battery.specs.Tree.{Expr, Arms, Card, at}
 use Rattle.battery.specs.Typing.{arms-of}
 use Rattle.table.specs.declared.token.Token.{Token}
 use Rattle.grammar.specs.Grammar.{Piece, expr, cardOf, piecesOf}
 use Rattle.numbering.specs.Places.{typesIn}
-use Rattle.verdict.specs.Order.{allOnce, armsNamed, asFields}
+use Rattle.verdict.specs.Order.{allOnce, armsNamed}
 use Rattle.rules.specs.Typed.{armsFrom}
 
 -- behind the part of the arm at p

@@ -1,15 +1,15 @@
 -- What typing at a place answers, for every card that the tokens spell.
 use mathlib.Core.Path.{_≡_}
 use mathlib.Core.Bool.{Bool, _&&_}
-use mathlib.Core.List.{List, [], _∷_, _++_}
+use mathlib.Core.List.{List, _∷_, _++_}
 use Prim.Native.Nat.{ℕ}
 use lib.ListN.{length, drop}
 use Rattle.std.specs.declared.option.Option.{Option}
-use Rattle.std.specs.declared.option.Option.the-variants.{Some, None}
+use Rattle.std.specs.declared.option.Option.the-variants.{Some}
 use Rattle.std.specs.declared.result.Result.{Result}
 use Rattle.std.specs.declared.result.Result.the-variants.{Ok, Err}
 use Rattle.battery.specs.declared.Ty.{Ty}
-use Rattle.battery.specs.Tree.{Expr, Exprs, Arms, no-arm, arm, Scope, bind, Fn, Card, at, _▸_}
+use Rattle.battery.specs.Tree.{Expr, Exprs, Arms, no-arm, arm, Scope, bind, Card, at, _▸_}
 use Rattle.table.specs.declared.token.Token.{Token}
 use Rattle.grammar.specs.Grammar.{Piece, expr, exprs, count, takeArms, orClose, cardOf, piecesOf}
 use Rattle.verdict.specs.Order.{Checked, has, fault, check, checkAll, checkArms, allAs, allOnce, armsNamed, fieldsOf}

@@ -1,6 +1,4 @@
 ghost use mathlib.Core.Path.{_≡_};
-ghost use Prim.Native.Nat.{_≤_};
-ghost use lib.ListN.{length};
 ghost use Rattle.rules.specs.Rules.{pairType, ifType, pairRule, ifRule, declaredRule, leafRule};
 ghost use Rattle.rules.specs.Typed.{checkedBy};
 ghost use Rattle.verdict.specs.Order.{sameTy, sameTys, there};

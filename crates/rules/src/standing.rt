@@ -1,5 +1,4 @@
 ghost use mathlib.Core.Path.{_≡_};
-ghost use Prim.Native.Nat.{_≤_};
 ghost use Rattle.battery.specs.Tree.{at};
 ghost use Rattle.numbering.specs.Ends.{isClose};
 ghost use Rattle.numbering.specs.Views.{tokensIn};

@@ -1,10 +1,10 @@
 -- What one entry more does to the scope that entries stand for.
 use mathlib.Core.Path.{_≡_, refl, sym, ap, _∙_}
 use mathlib.Core.List.{List, [], _∷_, _++_}
-use Prim.Native.Nat.{ℕ, zero, suc, _+_, _-_, _≤_, _<_}
+use Prim.Native.Nat.{ℕ, suc, _+_, _-_, _<_}
 use native.Mathlib.Omega.{arith}
-use lib.ListN.{length, getD, set, take, drop}
-use Rattle.std.proofs.shelf.Lists.{take-more, take-more-set, take-set-le, take-all, length-take-le}
+use lib.ListN.{length, getD, set, take}
+use Rattle.std.proofs.shelf.Lists.{take-more, take-more-set, take-all, length-take-le}
 use Rattle.battery.specs.Tree.{Scope, bind}
 use Rattle.scope.specs.declared.Entry.{Entry}
 use Rattle.scope.specs.Bound.{upon, scopeOf}

@@ -1,5 +1,5 @@
 -- The token that a record is, where the table allows its fields.
-use mathlib.Core.Bool.{Bool, cond, _&&_}
+use mathlib.Core.Bool.{cond, _&&_}
 use mathlib.Core.List.{List, [], _∷_}
 use Prim.Native.Nat.{ℕ, zero, suc, _+_}
 use lib.Dec.{eqb}
@@ -17,7 +17,6 @@ use Rattle.image.specs.declared.record.Record.{Record}
 use Rattle.image.specs.Bytes.{recordIn}
 use Rattle.table.specs.declared.row.Parts.{Parts}
 use Rattle.table.specs.declared.row.Parts.the-variants.{Nothing, Two, Three, AsMany, OneAndArms, TypeAndOne, Grouped}
-use Rattle.table.specs.declared.row.Row.{Row}
 use Rattle.table.specs.declared.token.Token.{Token}
 use Rattle.table.specs.declared.token.Token.the-variants.{Close as CLOSE, Enum as ENUM, Case as CASE, Def as DEF, Ty as TYPE, Arm as ARM, Expr as EXPR}
 use Rattle.table.specs.declared.token.Head.the-variants.{Leaf as LEAF, Pair as PAIR, If as IF, Match as MATCH, Exit as EXIT, Many as MANY}

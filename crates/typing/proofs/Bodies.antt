@@ -6,7 +6,6 @@ use Prim.Native.Nat.{ℕ, zero, suc, _+_, _<_, _≤_}
 use native.Mathlib.Omega.{arith}
 use lib.ListN.{length, take, drop}
 use Rattle.std.proofs.shelf.Lists.{drop-all}
-use Rattle.std.specs.declared.option.Option.{Option}
 use Rattle.std.specs.declared.option.Option.the-variants.{Some, None}
 use Rattle.std.specs.declared.result.Result.{Result}
 use Rattle.std.specs.declared.result.Result.the-variants.{Ok, Err}
@@ -26,10 +25,9 @@ use Rattle.verdict.specs.Order.{Checked, has, fault, _▹_, rule, sameTy, check
 use Rattle.rules.specs.declared.declared.Signature.{Signature}
 use Rattle.rules.specs.declared.fault.TypeFault.{TypeFault}
 use Rattle.rules.specs.declared.fault.Broken.the-variants.{Mistyped}
-use Rattle.rules.specs.declared.types.Types.{Types}
 use Rattle.rules.specs.Listed.{typesOf}
 use Rattle.rules.specs.Signatures.{SameSignature}
-use Rattle.rules.specs.Typed.{typeNumber, checkedBy, TypedAt}
+use Rattle.rules.specs.Typed.{typeNumber, TypedAt}
 use Rattle.rules.proofs.Walks.{matched-none, matched-some}
 use Rattle.typing.specs.Functions.{FunctionAt}
 

@@ -17,13 +17,12 @@ use Rattle.std.specs.declared.result.Result.{Result}
 use Rattle.std.specs.declared.result.Result.the-variants.{Ok, Err}
 use Rattle.battery.specs.declared.Ty.{Ty}
 use Rattle.battery.specs.declared.Ty.the-variants.{Unit as unit, Number as number, Boolean as boolean, Text as text, Enum as enum}
-use Rattle.battery.specs.Tree.{Scope, bind, Card, at, _▸_}
+use Rattle.battery.specs.Tree.{Scope, bind, at, _▸_}
 use Rattle.table.specs.declared.token.Token.{Token}
 use Rattle.table.specs.declared.token.Token.the-variants.{Close as CLOSE, Enum as ENUM, Case as CASE, Def as DEF, Ty as TYPE, Arm as ARM, Expr as EXPR}
 use Rattle.table.specs.declared.token.Head.{Head}
 use Rattle.table.specs.declared.token.Head.the-variants.{Leaf as LEAF, Pair as PAIR, If as IF, Match as MATCH, Exit as EXIT, Many as MANY}
 use Rattle.table.specs.declared.token.Leaf.{Leaf}
-use Rattle.table.specs.declared.token.Pair.{Pair}
 use Rattle.table.specs.declared.token.Pair.the-variants.{Calc as CALC, Concat as CONCAT, Eq as EQ, Lt as LT, Seq as SEQ, Val as VAL}
 use Rattle.scope.specs.declared.Entry.{Entry}
 use Rattle.scope.specs.Bound.{scopeOf}
@@ -35,19 +34,18 @@ use Rattle.numbering.proofs.Options.{never, Some≡, through, false≢true}
 use Rattle.numbering.proofs.Bounds.{limited-at}
 use Rattle.numbering.proofs.Indexed.{at-below}
 use Rattle.numbering.proofs.Declared.{cases-counted}
-use Rattle.verdict.specs.Order.{Checked, has, fault, sameTy, enumOf, fieldsOf}
+use Rattle.verdict.specs.Order.{has, fault, sameTy, enumOf, fieldsOf}
 use Rattle.rules.specs.declared.fault.Broken.the-variants.{Mistyped, Arms as OfArms}
 use Rattle.rules.specs.declared.fault.TypeFault.{TypeFault}
-use Rattle.rules.specs.declared.shape.Shape.{Shape}
-use Rattle.rules.specs.declared.shape.Shape.the-variants.{Leaf as leaf, Val as val, Match as match, Exit as exit, Plain as plain}
+use Rattle.rules.specs.declared.shape.Shape.the-variants.{Leaf as leaf, Plain as plain}
 use Rattle.rules.specs.declared.types.Types.{Types}
 use Rattle.rules.specs.Listed.{typesOf}
 use Rattle.rules.specs.Places.{headOf, armOf, typeOf}
 use Rattle.rules.specs.Rules.{ruled, partsOf, leafRule}
 use Rattle.rules.specs.Shapes.{shapeOf}
 use Rattle.rules.specs.Standing.{OfEnum}
-use Rattle.rules.specs.Typed.{typeNumber, checkedBy, TypedAt, PartsAt, PartsBehind, FitAt, ArmAt, ArmsAt}
-use Rattle.rules.proofs.Backs.{head-is, head-not, type-is, type-not, arm-is, arm-not}
+use Rattle.rules.specs.Typed.{typeNumber, TypedAt, PartsAt, PartsBehind, FitAt, ArmAt, ArmsAt}
+use Rattle.rules.proofs.Backs.{head-is, head-not, type-is, type-not, arm-not}
 use Rattle.rules.proofs.Nodes.{plain as isPlain}
 use Rattle.rules.proofs.Steps.{ends, other, leaf-typed, leaf-fault, node-fault, node-typed, node-broken, no-parts, first-part-fault, more-parts-fault, more-parts, val-fault, val-typed, no-type-here, exit-fault, exit-broken, exit-typed, match-fault, no-enum, no-cases, HasEnum, misarmed, first-arm-fault, other-arm-fault, match-typed, arms-differ, arm-typed, no-arm-at, arms-closed, arms-first-fault, arms-other-fault, arms-more, no-arms-at}
 

@@ -1,12 +1,12 @@
 -- Accepted exactly if the bytes have the form of Some typed card.
 use mathlib.Core.Path.{_≡_, refl, sym, _∙_, ap, ap₂, subst}
-use mathlib.Core.Bool.{Bool, true, false, cond, not, _&&_, _||_}
-use mathlib.Core.List.{List, [], _∷_}
+use mathlib.Core.Bool.{Bool, true, false, cond, not, _||_}
+use mathlib.Core.List.{List, []}
 use Rattle.std.specs.declared.option.Option.{Option}
 use Rattle.std.specs.declared.option.Option.the-variants.{Some, None}
-use Prim.Native.Nat.{ℕ, zero, suc, _+_, _*_, _≤_, _<_}
+use Prim.Native.Nat.{ℕ, _+_, _*_, _≤_}
 use native.Mathlib.Omega.{arith}
-use lib.Dec.{eqb, leb, ltb}
+use lib.Dec.{eqb, ltb}
 use lib.ListN.{length}
 use borrow.Author.Tests.{ltb-false, eqb-true, eqb-false, not-false, le-ltb, eq-eqb, ne-eqb}
 use Rattle.battery.specs.Tree.{Card}
@@ -20,12 +20,12 @@ use Rattle.table.specs.Naming.{tokensOf}
 use Rattle.grammar.specs.Grammar.{Spelt, cardOf, misplaced}
 use Rattle.verdict.specs.Order.{Checked, has, fault, checkCard}
 use Rattle.numbering.specs.Numbering.{none-seen, misnumbered}
-use Rattle.verdict.specs.Verdict.{Verdict, accepted, refused, byTypes, byNumbers, byPlace, byGrammar, byTable, byHeader, verdict, Ranges, Header, Form, Accepted}
+use Rattle.verdict.specs.Verdict.{accepted, refused, byTypes, byNumbers, byPlace, byGrammar, byTable, byHeader, verdict, Ranges, Header, Form, Accepted}
 use Rattle.verdict.specs.Claims.{Reads-exactly, Spelt-unless-misplaced, Faultless-if-typed, Accepts-exactly-the-typed, One-card}
 use Rattle.numbering.proofs.Options.{Some≡, never}
 use Rattle.numbering.proofs.Read.{card-sound, card-complete}
 use Rattle.verdict.proofs.Follow.{placed, not-misplaced}
-use Rattle.verdict.proofs.Check.{card-typed, typed-card, faulty}
+use Rattle.verdict.proofs.Check.{card-typed, typed-card}
 use Rattle.verdict.proofs.Formed.{card-formed}
 
 pub reads-exactly : Reads-exactly

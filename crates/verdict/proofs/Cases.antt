@@ -1,7 +1,5 @@
 -- The worked card and its two cuts, computed from their bytes.
 use mathlib.Core.Path.{_≡_, refl}
-use mathlib.Core.List.{List, [], _∷_}
-use Prim.Native.Nat.{ℕ}
 use lib.ListN.{length}
 use Rattle.table.specs.Rows.{rowAt}
 use Rattle.verdict.specs.Cases.{image-K, K-accepted, K-without-4, K-without-16}

@@ -1,10 +1,10 @@
 -- The checker gives a type exactly where the typing rules give it, and no fault exactly to a typed card.
 use mathlib.Core.Path.{_≡_, refl, sym, _∙_, ap, ap₂, subst}
-use mathlib.Core.Bool.{Bool, true, false, cond, _&&_}
+use mathlib.Core.Bool.{Bool, true, false, _&&_}
 use mathlib.Core.List.{List, [], _∷_}
 use Rattle.std.specs.declared.option.Option.{Option}
 use Rattle.std.specs.declared.option.Option.the-variants.{Some, None}
-use Prim.Native.Nat.{ℕ, zero, suc, _+_, _≤_, _<_}
+use Prim.Native.Nat.{ℕ, zero, suc, _<_}
 use native.Mathlib.Omega.{arith}
 use native.Mathlib.Decide.{ℕ-discrete}
 use lib.Dec.{eqb}
@@ -12,13 +12,13 @@ use lib.ListN.{length}
 use borrow.Author.Tests.{eqb-true, eq-eqb}
 use Rattle.battery.specs.declared.Ty.{Ty}
 use Rattle.battery.specs.declared.Ty.the-variants.{Unit as unit, Number as number, Boolean as boolean, Text as text, Enum as enum}
-use Rattle.battery.specs.Tree.{Expr, Unit′, Num, Bool′, Str, Local, Calc, Concat, Eq, Lt, Seq, If, Val, Call, Make, Match, Exit, Exprs, ∅, _&_, Arms, no-arm, arm, Scope, find, bind, at, Fn, Card, inRange, _▸_}
+use Rattle.battery.specs.Tree.{Expr, Unit′, Num, Bool′, Str, Local, Calc, Concat, Eq, Lt, Seq, If, Val, Call, Make, Match, Exit, Exprs, ∅, _&_, Arms, no-arm, arm, Scope, find, bind, at, Fn, Card}
 use Rattle.battery.specs.Typing.{arms-of, _∣_⊢_∶_, t-unit, t-num, t-bool, t-str, t-local, t-calc, t-concat, t-eq, t-lt, t-seq, t-if, t-val, t-call, t-make, t-match, t-exit, _∣_⊢⋆_∶_, t-nil, t-cons, TypedArms, t-no-arm, t-arm, TypedCard}
 use Rattle.table.specs.Naming.{typeNamed}
-use Rattle.numbering.specs.Numbering.{caseOf, isThere, typeThere}
+use Rattle.numbering.specs.Numbering.{caseOf}
 use Rattle.verdict.specs.Order.{Checked, has, fault, _▹_, rule, there, kindOf, enumNumber, sameTy, sameTys, enumOf, allOnce, asFields, armsNamed, fieldsOf, allAs, common, check, checkAll, checkArms, checkFn, checkFns, checkCard}
-use Rattle.verdict.specs.Formed.{allThere, Formed, FormedAll, FormedArms, FormedFn, FormedCard}
-use Rattle.numbering.proofs.Options.{Through, through, Some≡, never, false≢true, both}
+use Rattle.verdict.specs.Formed.{Formed, FormedAll, FormedArms, FormedFn, FormedCard}
+use Rattle.numbering.proofs.Options.{through, Some≡, never, false≢true, both}
 
 -- a check that went through
 pub record Passed {A B : Type 0} (o : Checked A) (f : A → Checked B) (b : B) : Type 0 where

@@ -1,16 +1,16 @@
 -- Typing finds faults 10 to 13 alone: what CALL, MAKE and an enum's TYPE name is there.
-use mathlib.Core.Path.{_≡_, refl, sym, _∙_, subst}
+use mathlib.Core.Path.{_≡_, refl, subst}
 use mathlib.Core.Bool.{Bool, true, false, cond, _&&_}
 use mathlib.Core.List.{List, [], _∷_}
 use Rattle.std.specs.declared.option.Option.{Option}
 use Rattle.std.specs.declared.option.Option.the-variants.{Some, None}
-use Prim.Native.Nat.{ℕ, zero, suc, _≤_}
+use Prim.Native.Nat.{ℕ, suc, _≤_}
 use native.Mathlib.Omega.{arith}
 use lib.Dec.{eqb}
 use lib.ListN.{length}
 use Rattle.battery.specs.declared.Ty.{Ty}
-use Rattle.battery.specs.declared.Ty.the-variants.{Unit as unit, Number as number, Boolean as boolean, Text as text, Enum as enum}
-use Rattle.battery.specs.Tree.{Expr, Unit′, Num, Bool′, Str, Local, Calc, Concat, Eq, Lt, Seq, If, Val, Call, Make, Match, Exit, Exprs, ∅, _&_, Arms, no-arm, arm, Scope, find, bind, at, Fn, Card, _▸_}
+use Rattle.battery.specs.declared.Ty.the-variants.{Number as number, Boolean as boolean, Text as text, Enum as enum}
+use Rattle.battery.specs.Tree.{Expr, Unit′, Num, Bool′, Str, Local, Calc, Concat, Eq, Lt, Seq, If, Val, Call, Make, Match, Exit, Exprs, ∅, _&_, Arms, no-arm, arm, Scope, find, bind, at, Fn, Card}
 use Rattle.numbering.specs.Numbering.{caseOf, isThere, typeThere}
 use Rattle.verdict.specs.Order.{Checked, has, fault, _▹_, rule, there, sameTy, sameTys, enumOf, allOnce, armsNamed, fieldsOf, allAs, common, check, checkAll, checkArms, checkFn, checkFns, checkCard}
 use Rattle.verdict.specs.Formed.{allThere, Formed, FormedAll, FormedArms, FormedFn, FormedCard}

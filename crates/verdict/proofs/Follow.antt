@@ -1,6 +1,6 @@
 -- What can follow: the reader's card is there exactly where no token is misplaced, and the misplaced token is the first that no card has there.
-use mathlib.Core.Path.{_≡_, refl, sym, _∙_, ap, subst}
-use mathlib.Core.Bool.{Bool, true, false, cond}
+use mathlib.Core.Path.{_≡_, refl, sym, _∙_, ap}
+use mathlib.Core.Bool.{Bool, true, false}
 use mathlib.Core.List.{List, [], _∷_, _++_}
 use Rattle.std.specs.declared.option.Option.{Option}
 use Rattle.std.specs.declared.option.Option.the-variants.{Some, None}
@@ -9,16 +9,14 @@ use native.Mathlib.Omega.{arith}
 use lib.ListN.{length, take, length-append}
 use Rattle.battery.specs.declared.Ty.{Ty}
 use Rattle.battery.specs.declared.Ty.the-variants.{Unit as unit}
-use Rattle.battery.specs.Tree.{Expr, If, Match, Exit, Exprs, ∅, _&_, Arms, no-arm, arm, Fn, Card, _▸_}
+use Rattle.battery.specs.Tree.{Expr, Exprs, ∅, _&_, Card}
 use Rattle.table.specs.declared.token.Token.{Token}
 use Rattle.table.specs.declared.token.Token.the-variants.{Close as CLOSE, Enum as ENUM, Case as CASE, Def as DEF, Ty as TYPE, Arm as ARM, Expr as EXPR}
 use Rattle.table.specs.declared.token.Head.{Head}
 use Rattle.table.specs.declared.token.Head.the-variants.{Leaf as LEAF, Pair as PAIR, If as IF, Match as MATCH, Exit as EXIT, Many as MANY}
-use Rattle.table.specs.declared.token.Leaf.{Leaf}
 use Rattle.table.specs.declared.token.Leaf.the-variants.{Unit as UNIT}
-use Rattle.table.specs.declared.token.Pair.{Pair}
 use Rattle.table.specs.declared.token.Many.{Many}
-use Rattle.grammar.specs.Grammar.{Piece, close, type, expr, cases, arms, an-enum, a-fn, leafAt, pairAt, manyAt, types, exprs, count, fnAt, Spells, s-end, s-close, s-type, s-leaf, s-pair, s-if, s-many, s-match, s-last-arm, s-arm, s-exit, s-last-case, s-case, s-enum, s-def, with-enum, with-fn, Items, no-item, enum-item, fn-item, Spelt, Want, want-type, want-expr, want-close, want-cases, want-arms, expecting, parts, follow, group, misplaced, innermost, outer, openedBy, opens, openGroups, Begins, Misplaced}
+use Rattle.grammar.specs.Grammar.{Piece, close, type, expr, cases, arms, an-enum, a-fn, types, exprs, count, Spells, s-end, s-close, s-type, s-leaf, s-pair, s-if, s-many, s-match, s-last-arm, s-arm, s-exit, s-last-case, s-case, s-enum, s-def, with-enum, with-fn, Items, no-item, enum-item, fn-item, Spelt, Want, want-type, want-expr, want-close, want-cases, want-arms, expecting, parts, follow, group, misplaced, innermost, openedBy, opens, openGroups, Misplaced}
 use Rattle.numbering.proofs.Options.{Some≡, never}
 
 data Follows : ℕ → List Want → Token → List Want → Type 0 where

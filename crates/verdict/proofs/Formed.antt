@@ -1,17 +1,13 @@
 -- What form sees to, all through a card that is spelt.
 use mathlib.Core.Path.{_≡_, refl, sym, subst}
-use mathlib.Core.Bool.{Bool, true, false, cond, _&&_}
+use mathlib.Core.Bool.{Bool, true, false, cond}
 use mathlib.Core.List.{List, [], _∷_}
-use Rattle.std.specs.declared.option.Option.{Option}
 use Rattle.std.specs.declared.option.Option.the-variants.{Some, None}
-use Prim.Native.Nat.{ℕ, zero, suc, _+_, _-_, _≤_}
+use Prim.Native.Nat.{ℕ, zero, suc, _-_}
 use native.Mathlib.Omega.{arith}
-use lib.Dec.{eqb, leb, ltb}
-use lib.IntN.{ℤ, pos, negsuc}
-use lib.ListN.{length, take, drop, length-take}
-use borrow.Author.Tests.{leb-true, le-leb, ltb-true, ltb-false}
+use lib.ListN.{length-take}
 use Rattle.battery.specs.declared.Ty.{Ty}
-use Rattle.battery.specs.Tree.{Expr, Exprs, ∅, _&_, Arms, no-arm, arm, at, Fn, Card, inRange, _▸_}
+use Rattle.battery.specs.Tree.{Expr, Exprs, ∅, _&_, Arms, no-arm, arm, at, Fn, Card}
 use Rattle.table.specs.declared.token.Token.{Token}
 use Rattle.table.specs.declared.token.Token.the-variants.{Close as CLOSE, Enum as ENUM, Case as CASE, Def as DEF, Ty as TYPE, Arm as ARM, Expr as EXPR}
 use Rattle.table.specs.declared.token.Head.{Head}
@@ -22,16 +18,15 @@ use Rattle.table.specs.declared.token.Pair.{Pair}
 use Rattle.table.specs.declared.token.Pair.the-variants.{Calc as CALC, Concat as CONCAT, Eq as EQ, Lt as LT, Seq as SEQ, Val as VAL}
 use Rattle.table.specs.declared.token.Many.{Many}
 use Rattle.table.specs.declared.token.Many.the-variants.{Call as CALL, Make as MAKE}
-use Rattle.image.specs.declared.record.Record.{Record}
 use Rattle.image.specs.Bytes.{recordsOf, textOf}
 use Rattle.grammar.specs.Grammar.{Piece, close, type, expr, cases, arms, an-enum, a-fn, leafAt, pairAt, manyAt, types, exprs, Spells, s-end, s-close, s-type, s-leaf, s-pair, s-if, s-many, s-match, s-last-arm, s-arm, s-exit, s-last-case, s-case, s-enum, s-def, Items, no-item, enum-item, fn-item}
-use Rattle.numbering.specs.Numbering.{caseOf, isThere, typeThere}
+use Rattle.numbering.specs.Numbering.{typeThere}
 use Rattle.verdict.specs.Formed.{allThere, Formed, FormedAll, FormedArms, FormedFn, FormedCard}
 use Rattle.numbering.specs.Numbering.{Seen, seen, none-seen, manyThere, numbered, misnumbered}
 use Rattle.numbering.specs.Limits.{LimitedLeaf as InLeaf, LimitedHead as InHead, Limited as InToken, AllLimited as InTokens}
 use Rattle.numbering.proofs.Limits.{all-limited as tokens-in}
 use Rattle.verdict.specs.Verdict.{Form}
-use Rattle.numbering.proofs.Options.{through, Some≡, never, both, false≢true}
+use Rattle.numbering.proofs.Options.{through, Some≡, never}
 
 -- tokens that name what the card has
 module _ (C : Card) where

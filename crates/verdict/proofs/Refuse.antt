@@ -1,13 +1,13 @@
 -- Refused exactly for a reason of the list.
 use mathlib.Core.Path.{_≡_, refl, sym, _∙_, ap, ap₂, subst}
-use mathlib.Core.Bool.{Bool, true, false, cond, not, _&&_, _||_}
+use mathlib.Core.Bool.{Bool, true, false, cond, not}
 use mathlib.Core.List.{List, [], _∷_, _++_, append-assoc}
 use Rattle.std.specs.declared.option.Option.{Option}
 use Rattle.std.specs.declared.option.Option.the-variants.{Some, None}
 use Prim.Native.Nat.{ℕ, zero, suc, _+_, _*_, _≤_, _<_}
 use native.Mathlib.Omega.{arith}
-use native.Mathlib.Decide.{ℕ-discrete, decLt}
-use lib.Dec.{eqb, leb, ltb}
+use native.Mathlib.Decide.{decLt}
+use lib.Dec.{eqb, ltb}
 use lib.ListN.{length, take, drop, take-append-drop}
 use Rattle.std.proofs.shelf.Lists.{take-take}
 use borrow.Author.Tests.{ltb-true, ltb-false, lt-ltb, le-ltb, eqb-true, eqb-false, not-true, not-false, eq-eqb, ne-eqb}
@@ -22,11 +22,11 @@ use Rattle.table.specs.Naming.{tokenOf, unknown, tokensOf}
 use Rattle.grammar.specs.Grammar.{Spelt, cardOf, misplaced, Begins, Misplaced}
 use Rattle.verdict.specs.Order.{Checked, has, fault, checkCard}
 use Rattle.numbering.specs.Numbering.{Seen, seen, none-seen, seenIn, numbered, misnumbered}
-use Rattle.verdict.specs.Verdict.{Verdict, accepted, refused, byTypes, byNumbers, byPlace, byGrammar, byTable, imageNumber, byHeader, verdict, Ranges, Whole, Header, Form, Lowest, Unknown, Misnumbered, Refusal, too-short, wrong-letters, wrong-version, out-of-range, wrong-length, not-in-table, cannot-follow, wrong-number, wrong-typing}
+use Rattle.verdict.specs.Verdict.{Verdict, accepted, refused, byTypes, byNumbers, byPlace, byGrammar, byTable, imageNumber, byHeader, verdict, Header, Form, Lowest, Unknown, Misnumbered, Refusal, too-short, wrong-letters, wrong-version, out-of-range, wrong-length, not-in-table, cannot-follow, wrong-number, wrong-typing}
 use Rattle.verdict.specs.Claims.{Misplaced-first, Refuses-exactly, Typing-faults}
 use Rattle.numbering.proofs.Options.{through, Some≡, never, false≢true}
 use Rattle.numbering.proofs.Read.{card-sound, card-complete}
-use Rattle.verdict.proofs.Follow.{placed, not-misplaced, law-8}
+use Rattle.verdict.proofs.Follow.{placed, law-8}
 use Rattle.verdict.proofs.Formed.{card-formed}
 use Rattle.verdict.proofs.Faults.{type-faults}
 use Rattle.verdict.proofs.Breaks.{first-broken}

@@ -1,13 +1,13 @@
 -- A sequence of pieces is spelt by what spells each of them, joined.
-use mathlib.Core.Path.{_≡_, refl, sym, _∙_, ap, subst}
+use mathlib.Core.Path.{_≡_, refl, sym, ap, subst}
 use mathlib.Core.List.{List, [], _∷_, _++_}
-use Prim.Native.Nat.{ℕ, zero, suc, _+_}
+use Prim.Native.Nat.{ℕ, suc, _+_}
 use native.Mathlib.Omega.{arith}
 use lib.ListN.{length}
 use Rattle.battery.specs.declared.Ty.{Ty}
 use Rattle.battery.specs.Tree.{Exprs, ∅, _&_}
 use Rattle.table.specs.declared.token.Token.{Token}
-use Rattle.grammar.specs.Grammar.{Piece, close, type, expr, cases, arms, types, exprs, Spells, s-end, s-close, s-type, s-leaf, s-pair, s-if, s-many, s-match, s-last-arm, s-arm, s-exit, s-last-case, s-case, s-enum, s-def, Apart}
+use Rattle.grammar.specs.Grammar.{Piece, type, expr, types, exprs, Spells, s-end, s-close, s-type, s-leaf, s-pair, s-if, s-many, s-match, s-last-arm, s-arm, s-exit, s-last-case, s-case, s-enum, s-def, Apart}
 use Rattle.verdict.specs.Claims.{Spelt-in-sequence}
 
 exprs-++ : (es : Exprs) (qs ps : List Piece) → exprs es qs ++ ps ≡ exprs es (qs ++ ps)

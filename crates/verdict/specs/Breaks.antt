@@ -1,7 +1,6 @@
 -- Typing order: Breaks C Γ e n r says that typing e in the scope Γ first breaks rule n, at the record r.
 use mathlib.Core.Path.{_≡_}
 use mathlib.Core.List.{List, [], _∷_}
-use Rattle.std.specs.declared.option.Option.{Option}
 use Rattle.std.specs.declared.option.Option.the-variants.{Some, None}
 use Prim.Native.Nat.{ℕ, _<_}
 use lib.ListN.{length}

@@ -1,10 +1,9 @@
 -- A card to try.
 use mathlib.Core.Path.{_≡_}
-use mathlib.Core.List.{List, [], _∷_, _++_}
-use Rattle.std.specs.declared.option.Option.{Option}
-use Rattle.std.specs.declared.option.Option.the-variants.{Some, None}
+use mathlib.Core.List.{List, [], _∷_}
+use Rattle.std.specs.declared.option.Option.the-variants.{Some}
 use Prim.Native.Nat.{ℕ}
-use Rattle.verdict.specs.Verdict.{Verdict, accepted, refused, verdict}
+use Rattle.verdict.specs.Verdict.{accepted, refused, verdict}
 
 -- the bytes of a record whose B is below 256 and C below 65,536
 abbrev pub rec : ℕ → ℕ → ℕ → ℕ → ℕ → List ℕ → List ℕ

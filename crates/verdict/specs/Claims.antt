@@ -1,6 +1,5 @@
 -- What holds of every image.
 use mathlib.Core.Path.{_≡_}
-use mathlib.Core.Bool.{true}
 use mathlib.Core.Logic.{_↔_}
 use mathlib.Core.List.{List, [], _++_}
 use Rattle.std.specs.declared.option.Option.{Option}
@@ -14,7 +13,7 @@ use Rattle.grammar.specs.Grammar.{Piece, Spells, Apart, Spelt, cardOf, misplace
 use Rattle.verdict.specs.Order.{has, fault, checkCard}
 use Rattle.verdict.specs.Formed.{FormedCard}
 use Rattle.verdict.specs.Breaks.{BreaksCard}
-use Rattle.verdict.specs.Verdict.{Verdict, accepted, refused, verdict, Form, Accepted, Refusal}
+use Rattle.verdict.specs.Verdict.{accepted, refused, verdict, Form, Accepted, Refusal}
 
 -- the reader gives a card exactly where the tokens spell it
 abbrev pub Reads-exactly : Type 0

@@ -1,15 +1,13 @@
 -- What the form of a card has seen to before its functions are typed.
 use mathlib.Core.Path.{_≡_}
-use mathlib.Core.Bool.{Bool, true, false, cond, _&&_}
+use mathlib.Core.Bool.{true}
 use mathlib.Core.List.{List, [], _∷_}
-use Rattle.std.specs.declared.option.Option.{Option}
-use Rattle.std.specs.declared.option.Option.the-variants.{Some, None}
-use Prim.Native.Nat.{ℕ, zero, suc, _≤_}
-use lib.Dec.{eqb}
+use Rattle.std.specs.declared.option.Option.the-variants.{Some}
+use Prim.Native.Nat.{ℕ, _≤_}
 use lib.ListN.{length}
 use Rattle.battery.specs.declared.Ty.{Ty}
-use Rattle.battery.specs.declared.Ty.the-variants.{Unit as unit, Number as number, Boolean as boolean, Text as text, Enum as enum}
-use Rattle.battery.specs.Tree.{Expr, Unit′, Num, Bool′, Str, Local, Calc, Concat, Eq, Lt, Seq, If, Val, Call, Make, Match, Exit, Exprs, ∅, _&_, Arms, no-arm, arm, Scope, find, bind, at, Fn, Card, inRange, _▸_}
+use Rattle.battery.specs.declared.Ty.the-variants.{Number as number, Text as text}
+use Rattle.battery.specs.Tree.{Expr, Unit′, Num, Bool′, Str, Local, Calc, Concat, Eq, Lt, Seq, If, Val, Call, Make, Match, Exit, Exprs, ∅, _&_, Arms, no-arm, arm, at, Fn, Card, inRange}
 use Rattle.numbering.specs.Numbering.{isThere, typeThere, caseOf}
 
 abbrev pub allThere : Card → List Ty → Type 0

@@ -1,15 +1,14 @@
 -- Typing order: an expression's type, or the first fault, by its number and the record whose rule is broken.
-use mathlib.Core.Path.{_≡_}
-use mathlib.Core.Bool.{Bool, true, false, cond, _&&_}
+use mathlib.Core.Bool.{Bool, true, false, _&&_}
 use mathlib.Core.List.{List, [], _∷_}
 use Rattle.std.specs.declared.option.Option.{Option}
 use Rattle.std.specs.declared.option.Option.the-variants.{Some, None}
-use Prim.Native.Nat.{ℕ, zero, suc, _≤_}
+use Prim.Native.Nat.{ℕ, zero, suc}
 use lib.Dec.{eqb}
 use lib.ListN.{length}
 use Rattle.battery.specs.declared.Ty.{Ty}
 use Rattle.battery.specs.declared.Ty.the-variants.{Unit as unit, Number as number, Boolean as boolean, Text as text, Enum as enum}
-use Rattle.battery.specs.Tree.{Expr, Unit′, Num, Bool′, Str, Local, Calc, Concat, Eq, Lt, Seq, If, Val, Call, Make, Match, Exit, Exprs, ∅, _&_, Arms, no-arm, arm, Scope, find, bind, at, Fn, Card, inRange, _▸_}
+use Rattle.battery.specs.Tree.{Expr, Unit′, Num, Bool′, Str, Local, Calc, Concat, Eq, Lt, Seq, If, Val, Call, Make, Match, Exit, Exprs, ∅, _&_, Arms, no-arm, arm, Scope, find, bind, at, Fn, Card}
 use Rattle.battery.specs.Typing.{arms-of}
 use Rattle.numbering.specs.Numbering.{caseOf}
 

@@ -1,11 +1,10 @@
 -- What becomes of an image: accepted with its counts, or refused with number, record and open group.
 use mathlib.Core.Path.{_≡_}
-use mathlib.Core.Bool.{Bool, true, false, cond}
-use mathlib.Core.List.{List, [], _∷_}
+use mathlib.Core.Bool.{true, false}
+use mathlib.Core.List.{List, []}
 use Rattle.std.specs.declared.option.Option.{Option}
 use Rattle.std.specs.declared.option.Option.the-variants.{Some, None}
-use Prim.Native.Nat.{ℕ, zero, suc, _+_, _*_, _≤_, _<_}
-use lib.Dec.{eqb, leb}
+use Prim.Native.Nat.{ℕ, _+_, _*_, _≤_, _<_}
 use lib.ListN.{length, take}
 use Rattle.battery.specs.Tree.{at, Card}
 use Rattle.table.specs.declared.token.Token.{Token}
@@ -26,14 +25,17 @@ pub data Verdict : Type 0 where
   accepted : ℕ → ℕ → Verdict
   refused : ℕ → Option ℕ → Option ℕ → Verdict
 
+-- last, the types: 10 to 13 at the first record, in typing order, whose rule is broken
 abbrev pub byTypes : Card → Checked (Unit {0}) → Verdict
 byTypes C (has u) = accepted (length (C .enums)) (length (C .fns))
 byTypes C (fault n p) = refused n (Some p) None
 
+-- before it the numbering: 9 at the lowest record
 abbrev pub byNumbers : Card → Option ℕ → Verdict
 byNumbers C (Some p) = refused 9 (Some p) None
 byNumbers C None = byTypes C (checkCard C)
 
+-- before it the order: 8 at the first record that cannot follow, with the group open there
 abbrev pub byPlace : Option (ℕ × Option ℕ) → Verdict
 byPlace None = refused 8 None None
 byPlace (Some x) = refused 8 (Some (x .0)) (x .1)
@@ -42,10 +44,12 @@ abbrev pub byGrammar : ℕ → List Token → Option Card → Verdict
 byGrammar t ws (Some C) = byNumbers C (misnumbered C t 0 none-seen ws)
 byGrammar t ws None = byPlace (misplaced 0 [] ws)
 
+-- before it the table: 7 at the lowest record
 abbrev pub byTable : List ℕ → Option (List Token) → Verdict
 byTable image (Some ws) = byGrammar (textOf image) ws (cardOf (textBytes image) ws)
 byTable image None = refused 7 (unknown 0 (recordsOf image)) None
 
+-- and first the header: 2 to 6
 abbrev pub imageNumber : ImageFault → ℕ
 imageNumber Short = 2
 imageNumber Letters = 3
@@ -69,6 +73,7 @@ pub record Ranges (image : List ℕ) : Type 0 where
 abbrev pub Whole : List ℕ → Type 0
 Whole image = length image ≡ 9 + 8 * countOf image + textOf image
 
+-- the header's tests all pass
 pub record Header (image : List ℕ) : Type 0 where
   pub long : 9 ≤ length image
   pub letters : lettered image ≡ true
@@ -84,6 +89,7 @@ pub record Form (image : List ℕ) (C : Card) : Type 0 where
   pub spelt : Spelt (textBytes image) tokens C
   pub in-order : misnumbered C (textOf image) 0 none-seen tokens ≡ None
 
+-- the bytes spell a card in form, every function of which has its declared type
 pub record Accepted (image : List ℕ) (m n : ℕ) : Type 0 where
   pub card : Card
   pub form : Form image card

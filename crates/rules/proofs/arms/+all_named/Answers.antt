@@ -1,6 +1,6 @@
 use borrow.Author.Needs.{needs}
 use mathlib.Core.Bool.{true}
-use mathlib.Core.Path.{sym, subst, _∙_}
+use mathlib.Core.Path.{_∙_}
 use Rattle.numbering.specs.Views.{tokensIn}
 use Rattle.numbering.proofs.Indexed.{at-below}
 use Rattle.rules.proofs.Backs.{arm-is, arm-not}

@@ -1,4 +1,4 @@
-use mathlib.Core.Bool.{true, false}
+use mathlib.Core.Bool.{true}
 use mathlib.Core.Path.{_∙_}
 use Rattle.numbering.specs.Views.{tokensIn}
 use Rattle.rules.proofs.Walks.{fit, misfit}

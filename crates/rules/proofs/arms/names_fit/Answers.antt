@@ -1,4 +1,4 @@
-use mathlib.Core.Path.{sym, _∙_}
+use mathlib.Core.Path.{sym}
 use mathlib.Core.Bool.{false}
 use Rattle.numbering.specs.Views.{tokensIn}
 use Rattle.rules.proofs.Walks.{fields-there, fields-lost, fields-none}

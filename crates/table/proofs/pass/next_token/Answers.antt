@@ -1,5 +1,5 @@
 -- The token of the next record.
-use mathlib.Core.Path.{sym, ap, _∙_}
+use mathlib.Core.Path.{ap, _∙_}
 use borrow.Author.Needs.{needs}
 use Rattle.battery.specs.Tree.{_▸_}
 use Rattle.table.specs.Naming.{tokenIn, tokenOf}

@@ -1,10 +1,9 @@
 use native.Mathlib.Omega.{arith}
 use native.Mathlib.Numerals.{add-one}
-use mathlib.Core.Path.{_≡_, sym, subst}
-use lib.ListN.{length}
+use mathlib.Core.Path.{sym, subst}
 use Rattle.std.proofs.shelf.Results.{err-from-errBy}
 use Rattle.numbering.specs.Views.{tokensIn}
-use Rattle.typing.proofs.Bodies.{LeftAt, left-first, left-more, left-fault, left-none}
+use Rattle.typing.proofs.Bodies.{LeftAt, left-more, left-fault, left-none}
 use Rattle.typing.proofs.functions.typed.Needs as need
 
 pub returns-in-Break-function : need.returns-in-Break-function

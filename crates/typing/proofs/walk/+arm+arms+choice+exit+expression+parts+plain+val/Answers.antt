@@ -1,17 +1,17 @@
 -- Each answer is a step of typing, with the scope as it was before the call.
 use borrow.Author.Needs.{needs}
-use mathlib.Core.Path.{_≡_, refl, sym, _∙_, subst}
+use mathlib.Core.Path.{_≡_, refl, _∙_, subst}
 use native.Mathlib.Omega.{arith}
 use Prim.Native.Nat.{_+_, _<_, _≤_}
 use mathlib.Core.Bool.{true}
 use Rattle.std.specs.declared.result.Result.the-variants.{Err}
 use Rattle.rules.specs.Typed.{TypedAt}
-use lib.ListN.{length, length-append}
+use lib.ListN.{length}
 use Rattle.std.proofs.shelf.Results.{err-from-errBy}
 use Rattle.numbering.specs.Views.{tokensIn}
 use Rattle.numbering.proofs.Indexed.{at-below}
 use Rattle.rules.specs.Listed.{typesOf}
-use Rattle.rules.specs.Places.{headOf, armOf, typeOf}
+use Rattle.rules.specs.Places.{headOf, typeOf}
 use Rattle.rules.proofs.Backs.{stands, arm-is}
 use Rattle.typing.proofs.Turns.{Seen, pushed, bound-one, bound-all, few-types, same-so, not-same, fewer, later, no-sooner, no-head, leaf-turn, leaf-break, val-break, val-turn, exit-lost, exit-break, exit-wrong, exit-turn, parts-done, parts-break, parts-turn, few-parts, plain-break, plain-turn, plain-wrong, match-break, match-no-enum, so-many-cases, match-no-cases, match-misarmed, match-first-break, match-other-break, match-turn, match-differ, arm-lost, arm-turn, closed-below, arms-done, arms-break, arms-other-break, arms-turn}
 use Rattle.typing.proofs.walk.+arm+arms+choice+exit+expression+parts+plain+val.Needs as need
