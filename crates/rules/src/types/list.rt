@@ -37,6 +37,6 @@ impl Types {
     pub fn len(&self) -> usize
         ensures { λ r. ⌜ r ≡ length (typesOf (now (self .entry))) ⌝ }
     {
-        self.len
+        self.slice().len()
     }
 }
