@@ -27,7 +27,7 @@ use Rattle.verdict.specs.Order.{Checked, has, fault, _▹_, rule, there, sameTy
 use Rattle.rules.specs.declared.fault.Broken.the-variants.{Mistyped, Arms as OfArms}
 use Rattle.rules.specs.declared.fault.TypeFault.{TypeFault}
 use Rattle.rules.specs.Rules.{ruled, partsOf, leafRule}
-use Rattle.rules.specs.Typed.{typeNumber, TypedAt, PartsAt, armsFrom, FitAt, ArmAt, GaveArms, ArmsAt}
+use Rattle.rules.specs.Typed.{typeNumber, TypedAt, PartsAt, armsFrom, ArmAt, GaveArms, ArmsAt}
 use Rattle.rules.proofs.Nodes.{plain, node}
 
 pub behind-at : (ws : List Token) (p : ℕ) (w : Token) → at ws p ≡ Some w → drop p ws ≡ w ∷ drop (suc p) ws
@@ -238,7 +238,11 @@ module _ (ws : List Token) where
   abbrev pub HasEnum : ℕ → Type 0
   HasEnum k = (t : List ℕ) (C : Card) → cardOf t ws ≡ Some C → (E : List (List Ty)) × (at (C .enums) k ≡ Some E)
 
-  pub misarmed : (Γ : Scope Ty) (p m k : ℕ) → at ws p ≡ Some (EXPR MATCH) → TypedAt ws Γ (suc p) (Ok (enum k, m)) → HasEnum k → FitAt ws k m false → TypedAt ws Γ p (Err (record { broken = OfArms; «record» = p }))
+  -- whether the arms from a place fit the enum k
+  abbrev pub Fitting : ℕ → ℕ → Bool → Type 0
+  Fitting k p b = (t : List ℕ) (C : Card) → cardOf t ws ≡ Some C → (E : List (List Ty)) → at (C .enums) k ≡ Some E → (ms : Arms) (ps : List Piece) → armsFrom t ws p ≡ Some (ms, ps) → b ≡ (allOnce (length E) ms && armsNamed E ms)
+
+  pub misarmed : (Γ : Scope Ty) (p m k : ℕ) → at ws p ≡ Some (EXPR MATCH) → TypedAt ws Γ (suc p) (Ok (enum k, m)) → HasEnum k → Fitting k m false → TypedAt ws Γ p (Err (record { broken = OfArms; «record» = p }))
   misarmed Γ p m k h r n b t C read e ps q =
       let y = matching t C read Γ p m k h r e ps q in
       let E = n t C read in
@@ -289,19 +293,19 @@ module _ (ws : List Token) where
   armed t C Γ p m k e ps y = first-arm t m (y .ms) ps (y .standing) (y .some)
 
   -- once the arms fit, what is left is their types
-  behind-fit : (t : List ℕ) (C : Card) → cardOf t ws ≡ Some C → (Γ : Scope Ty) (p m k : ℕ) (e : Expr) (ps : List Piece) (y : Matching t C Γ p m k e ps) (E : List (List Ty)) → at (C .enums) k ≡ Some E → FitAt ws k m true
+  behind-fit : (t : List ℕ) (C : Card) → cardOf t ws ≡ Some C → (Γ : Scope Ty) (p m k : ℕ) (e : Expr) (ps : List Piece) (y : Matching t C Γ p m k e ps) (E : List (List Ty)) → at (C .enums) k ≡ Some E → Fitting k m true
       → (z : FirstArm t m (y .ms) ps) (o : Checked Ty) → check C (bind (z .x) (fieldsOf (at E (z .c))) Γ) (z .e) ≡ o → check C Γ e ≡ (o ▹ λ τ. checkArms C Γ E (z .more) ▹ λ τs. rule 11 p (allAs τ τs) ▹ λ u. has τ)
   behind-fit t C read Γ p m k e ps y E h b z o g =
       y .checks ∙ has-enum C Γ p k (y .ms) E true h (b t C read E h (y .ms) ps (y .standing)) ∙ ap (λ (ms : Arms). tested C Γ p ms E true) (z .is) ∙ arms-check C Γ p m (z .c) (z .n) (z .x) E (z .e) (z .more) o g
 
-  pub first-arm-fault : (Γ : Scope Ty) (p m k : ℕ) (f : TypeFault) → at ws p ≡ Some (EXPR MATCH) → TypedAt ws Γ (suc p) (Ok (enum k, m)) → HasEnum k → FitAt ws k m true → ArmAt ws Γ k m (Err f) → TypedAt ws Γ p (Err f)
+  pub first-arm-fault : (Γ : Scope Ty) (p m k : ℕ) (f : TypeFault) → at ws p ≡ Some (EXPR MATCH) → TypedAt ws Γ (suc p) (Ok (enum k, m)) → HasEnum k → Fitting k m true → ArmAt ws Γ k m (Err f) → TypedAt ws Γ p (Err f)
   first-arm-fault Γ p m k f h r n b a t C read e ps q =
       let y = matching t C read Γ p m k h r e ps q in
       let E = n t C read in
       let z = armed t C Γ p m k e ps y in
       behind-fit t C read Γ p m k e ps y (E .0) (E .1) b z _ (a t C read (E .0) (E .1) (z .c) (z .n) (z .x) (z .e) (z .more) ps (y .standing ∙ ap (λ (u : Arms). Some (u, ps)) (z .is)))
 
-  pub other-arm-fault : (Γ : Scope Ty) (p m k l : ℕ) (τ : Ty) (f : TypeFault) → at ws p ≡ Some (EXPR MATCH) → TypedAt ws Γ (suc p) (Ok (enum k, m)) → HasEnum k → FitAt ws k m true → ArmAt ws Γ k m (Ok (τ, l)) → ArmsAt ws Γ k τ l (Err f) → TypedAt ws Γ p (Err f)
+  pub other-arm-fault : (Γ : Scope Ty) (p m k l : ℕ) (τ : Ty) (f : TypeFault) → at ws p ≡ Some (EXPR MATCH) → TypedAt ws Γ (suc p) (Ok (enum k, m)) → HasEnum k → Fitting k m true → ArmAt ws Γ k m (Ok (τ, l)) → ArmsAt ws Γ k τ l (Err f) → TypedAt ws Γ p (Err f)
   other-arm-fault Γ p m k l τ f h r n b a s t C read e ps q =
       let y = matching t C read Γ p m k h r e ps q in
       let E = n t C read in
@@ -311,7 +315,7 @@ module _ (ws : List Token) where
       ∙ ap (λ (d : Checked (List Ty)). d ▹ λ τs. rule 11 p (allAs τ τs) ▹ λ u. has τ) (s t C read (E .0) (E .1) (z .more) ps (u .1))
 
   -- the arms' types, compared
-  arms-typed : (Γ : Scope Ty) (p m k l j : ℕ) (τ : Ty) (g : Bool) → at ws p ≡ Some (EXPR MATCH) → TypedAt ws Γ (suc p) (Ok (enum k, m)) → HasEnum k → FitAt ws k m true → ArmAt ws Γ k m (Ok (τ, l)) → ArmsAt ws Γ k τ l (Ok (g, j))
+  arms-typed : (Γ : Scope Ty) (p m k l j : ℕ) (τ : Ty) (g : Bool) → at ws p ≡ Some (EXPR MATCH) → TypedAt ws Γ (suc p) (Ok (enum k, m)) → HasEnum k → Fitting k m true → ArmAt ws Γ k m (Ok (τ, l)) → ArmsAt ws Γ k τ l (Ok (g, j))
       → (t : List ℕ) (C : Card) → cardOf t ws ≡ Some C → (e : Expr) (ps : List Piece) → piecesOf t p (drop p ws) ≡ Some (expr e ∷ ps) → (check C Γ e ≡ (rule 11 p g ▹ λ u. has τ)) × (piecesOf t j (drop j ws) ≡ Some ps)
   arms-typed Γ p m k l j τ g h r n b a s t C read e ps q =
       let y = matching t C read Γ p m k h r e ps q in
@@ -325,10 +329,10 @@ module _ (ws : List Token) where
         v .3,
       )
 
-  pub match-typed : (Γ : Scope Ty) (p m k l j : ℕ) (τ : Ty) → at ws p ≡ Some (EXPR MATCH) → TypedAt ws Γ (suc p) (Ok (enum k, m)) → HasEnum k → FitAt ws k m true → ArmAt ws Γ k m (Ok (τ, l)) → ArmsAt ws Γ k τ l (Ok (true, j)) → TypedAt ws Γ p (Ok (τ, j))
+  pub match-typed : (Γ : Scope Ty) (p m k l j : ℕ) (τ : Ty) → at ws p ≡ Some (EXPR MATCH) → TypedAt ws Γ (suc p) (Ok (enum k, m)) → HasEnum k → Fitting k m true → ArmAt ws Γ k m (Ok (τ, l)) → ArmsAt ws Γ k τ l (Ok (true, j)) → TypedAt ws Γ p (Ok (τ, j))
   match-typed Γ p m k l j τ h r n b a s t C read e ps q = arms-typed Γ p m k l j τ true h r n b a s t C read e ps q
 
-  pub arms-differ : (Γ : Scope Ty) (p m k l j : ℕ) (τ : Ty) → at ws p ≡ Some (EXPR MATCH) → TypedAt ws Γ (suc p) (Ok (enum k, m)) → HasEnum k → FitAt ws k m true → ArmAt ws Γ k m (Ok (τ, l)) → ArmsAt ws Γ k τ l (Ok (false, j)) → TypedAt ws Γ p (Err (record { broken = Mistyped; «record» = p }))
+  pub arms-differ : (Γ : Scope Ty) (p m k l j : ℕ) (τ : Ty) → at ws p ≡ Some (EXPR MATCH) → TypedAt ws Γ (suc p) (Ok (enum k, m)) → HasEnum k → Fitting k m true → ArmAt ws Γ k m (Ok (τ, l)) → ArmsAt ws Γ k τ l (Ok (false, j)) → TypedAt ws Γ p (Err (record { broken = Mistyped; «record» = p }))
   arms-differ Γ p m k l j τ h r n b a s t C read e ps q = arms-typed Γ p m k l j τ false h r n b a s t C read e ps q .0
 
   -- one arm: its names are bound to the fields of its case

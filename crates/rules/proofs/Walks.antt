@@ -123,9 +123,8 @@ module _ (ws : List Token) where
   pub fields-lost : (k c i p : ℕ) (b : Bool) → casePlace ws k c ≡ Some p → None ≡ fieldCount (at ws p) → OfEnum ws k (λ E. b ≡ asFields i (at E c))
   fields-lost k c i p b h w t C read E d = let m = matched-some (case-at t ws C read k c) p h in absurd (fields-not (at ws p) w (m .2 .n) (m .2 .k) (m .2 .is))
 
-  pub fit : (k p n : ℕ) (a b : Bool) → OfEnum ws k (λ E. n ≡ length E) → OnceAt ws n p a → NamedAt ws k p b → FitAt ws k p (a && b)
-  fit k p n a b l s r t C read E d ms ps q =
-      ap (λ (x : Bool). x && b) (s t ms ps q ∙ ap (λ (j : ℕ). allOnce j ms) (l t C read E d)) ∙ ap (λ (x : Bool). allOnce (length E) ms && x) (r t C read E d t ms ps q)
+  pub fit : (k p n : ℕ) (a b : Bool) → OnceAt ws n p a → NamedAt ws k p b → FitAt ws k n p (a && b)
+  fit k p n a b s r t C read E d ms ps q = ap (λ (x : Bool). x && b) (s t ms ps q) ∙ ap (λ (x : Bool). allOnce n ms && x) (r t C read E d t ms ps q)
 
-  pub misfit : (k p n : ℕ) → OfEnum ws k (λ E. n ≡ length E) → OnceAt ws n p false → FitAt ws k p false
-  misfit k p n l s t C read E d ms ps q = ap (λ (x : Bool). x && armsNamed E ms) (s t ms ps q ∙ ap (λ (j : ℕ). allOnce j ms) (l t C read E d))
+  pub misfit : (k p n : ℕ) → OnceAt ws n p false → FitAt ws k n p false
+  misfit k p n s t C read E d ms ps q = ap (λ (x : Bool). x && armsNamed E ms) (s t ms ps q)

@@ -41,12 +41,13 @@ TypedAt ws Γ p r = (t : List ℕ) (C : Card) → cardOf t ws ≡ Some C → (e 
 abbrev pub PartsAt : List Token → Scope Ty → ℕ → ℕ → Result (List Ty × ℕ) TypeFault → Type 0
 PartsAt ws Γ p n r = (t : List ℕ) (C : Card) → cardOf t ws ≡ Some C → (es : Exprs) (ps : List Piece) → n ≡ count es → piecesOf t p (drop p ws) ≡ Some (exprs es ps) → Gave t ws ps (checkAll C Γ es) r
 
--- the arms from a place, of the enum k: whether they are one for each case, with as many names as fields
+-- the arms from a place
 abbrev pub armsFrom : List ℕ → List Token → ℕ → Option (Arms × List Piece)
 armsFrom t ws p = piecesOf t p (drop p ws) ▸ λ qs. orClose no-arm qs (takeArms qs)
 
-abbrev pub FitAt : List Token → ℕ → ℕ → Bool → Type 0
-FitAt ws k p b = (t : List ℕ) (C : Card) → cardOf t ws ≡ Some C → (E : List (List Ty)) → at (C .enums) k ≡ Some E → (ms : Arms) (ps : List Piece) → armsFrom t ws p ≡ Some (ms, ps) → b ≡ (allOnce (length E) ms && armsNamed E ms)
+-- whether they are one for each case below n, all of the enum k and with as many names as fields
+abbrev pub FitAt : List Token → ℕ → ℕ → ℕ → Bool → Type 0
+FitAt ws k n p b = (t : List ℕ) (C : Card) → cardOf t ws ≡ Some C → (E : List (List Ty)) → at (C .enums) k ≡ Some E → (ms : Arms) (ps : List Piece) → armsFrom t ws p ≡ Some (ms, ps) → b ≡ (allOnce n ms && armsNamed E ms)
 
 -- the arm at a place: its part's type, and the place of what follows it
 abbrev pub GaveArm : List ℕ → List Token → Arms → List Piece → Checked Ty → Result (Ty × ℕ) TypeFault → Type 0

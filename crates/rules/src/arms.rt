@@ -75,10 +75,9 @@ fn all_named(card: &Layout<'_>, arm: usize, of: u16) -> bool
     }
 }
 
-// One arm for each case of the enum, with as many names as fields.
+// One arm for each of the cases below a number, all of the enum and with as many names as fields.
 pub fn arms_fit(card: &Layout<'_>, arm: usize, of: u16, cases: usize) -> bool
-    requires { ⌜ OfEnum (tokensIn (now card)) of (λ E. cases ≡ length E) ⌝ }
-    ensures { λ r. ⌜ FitAt (tokensIn (now (card .entry))) of arm r ⌝ }
+    ensures { λ r. ⌜ FitAt (tokensIn (now (card .entry))) of cases arm r ⌝ }
 {
     all_once(card, arm, cases) && all_named(card, arm, of)
 }

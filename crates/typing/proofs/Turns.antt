@@ -34,7 +34,7 @@ use Rattle.numbering.proofs.Options.{never, Some≡, through, false≢true}
 use Rattle.numbering.proofs.Bounds.{limited-at}
 use Rattle.numbering.proofs.Indexed.{at-below}
 use Rattle.numbering.proofs.Declared.{cases-counted}
-use Rattle.verdict.specs.Order.{has, fault, sameTy, enumOf, fieldsOf}
+use Rattle.verdict.specs.Order.{has, fault, sameTy, enumOf, allOnce, armsNamed, fieldsOf}
 use Rattle.rules.specs.declared.fault.Broken.the-variants.{Mistyped, Arms as OfArms}
 use Rattle.rules.specs.declared.fault.TypeFault.{TypeFault}
 use Rattle.rules.specs.declared.shape.Shape.the-variants.{Leaf as leaf, Plain as plain}
@@ -47,7 +47,7 @@ use Rattle.rules.specs.Standing.{OfEnum}
 use Rattle.rules.specs.Typed.{typeNumber, TypedAt, PartsAt, PartsBehind, FitAt, ArmAt, ArmsAt}
 use Rattle.rules.proofs.Backs.{head-is, head-not, type-is, type-not, arm-not}
 use Rattle.rules.proofs.Nodes.{plain as isPlain}
-use Rattle.rules.proofs.Steps.{ends, other, leaf-typed, leaf-fault, node-fault, node-typed, node-broken, no-parts, first-part-fault, more-parts-fault, more-parts, val-fault, val-typed, no-type-here, exit-fault, exit-broken, exit-typed, match-fault, no-enum, no-cases, HasEnum, misarmed, first-arm-fault, other-arm-fault, match-typed, arms-differ, arm-typed, no-arm-at, arms-closed, arms-first-fault, arms-other-fault, arms-more, no-arms-at}
+use Rattle.rules.proofs.Steps.{ends, other, leaf-typed, leaf-fault, node-fault, node-typed, node-broken, no-parts, first-part-fault, more-parts-fault, more-parts, val-fault, val-typed, no-type-here, exit-fault, exit-broken, exit-typed, match-fault, no-enum, no-cases, HasEnum, Fitting, misarmed, first-arm-fault, other-arm-fault, match-typed, arms-differ, arm-typed, no-arm-at, arms-closed, arms-first-fault, arms-other-fault, arms-more, no-arms-at}
 
 abbrev Entries : Type 0
 Entries = List (Entry Ty)
@@ -227,14 +227,18 @@ module _ (ws : List Token) where
   counted-in : (k n : ℕ) → Some n ≡ caseCount ws k → HasEnum ws k
   counted-in k n e t C read = let r = through (at (C .enums) k) (λ E. Some (length E)) n (sym (cases-counted t ws C read k) ∙ sym e) in (r .mid, r .got)
 
-  pub so-many-cases : (k n : ℕ) → Some n ≡ caseCount ws k → OfEnum ws k (λ E. n ≡ length E)
+  so-many-cases : (k n : ℕ) → Some n ≡ caseCount ws k → OfEnum ws k (λ E. n ≡ length E)
   so-many-cases k n e t C read E d = Some≡ (e ∙ cases-counted t ws C read k ∙ ap (λ (o : Option (List (List Ty))). o ▸ λ E. Some (length E)) d)
+
+  -- so arms that fit so many cases fit the enum
+  fitting : (k n m : ℕ) (b : Bool) → Some n ≡ caseCount ws k → FitAt ws k n m b → Fitting ws k m b
+  fitting k n m b c a t C read E d ms ps q = a t C read E d ms ps q ∙ ap (λ (j : ℕ). allOnce j ms && armsNamed E ms) (so-many-cases k n c t C read E d)
 
   pub match-no-cases : (b p m k : ℕ) (s : Entries) (σ : Ty) (f : TypeFault) → at ws p ≡ Some (EXPR MATCH) → TypedAt ws (Seen b s) (p + 1) (Ok (σ, m)) → Some k ≡ enumOf σ → None ≡ caseCount ws k → f ≡ record { broken = OfArms; «record» = p } → TypedAt ws (Seen b s) p (Err f)
   match-no-cases b p m k s σ f h r d n e = subst (λ g. TypedAt ws (Seen b s) p (Err g)) (sym e) (no-cases ws (Seen b s) p m k h (chosen b p m k s σ d r) (counted-out k n))
 
-  pub match-misarmed : (b p m k n : ℕ) (s : Entries) (σ : Ty) (f : TypeFault) → at ws p ≡ Some (EXPR MATCH) → TypedAt ws (Seen b s) (p + 1) (Ok (σ, m)) → Some k ≡ enumOf σ → Some n ≡ caseCount ws k → FitAt ws k m false → f ≡ record { broken = OfArms; «record» = p } → TypedAt ws (Seen b s) p (Err f)
-  match-misarmed b p m k n s σ f h r d c a e = subst (λ g. TypedAt ws (Seen b s) p (Err g)) (sym e) (misarmed ws (Seen b s) p m k h (chosen b p m k s σ d r) (counted-in k n c) a)
+  pub match-misarmed : (b p m k n : ℕ) (s : Entries) (σ : Ty) (f : TypeFault) → at ws p ≡ Some (EXPR MATCH) → TypedAt ws (Seen b s) (p + 1) (Ok (σ, m)) → Some k ≡ enumOf σ → Some n ≡ caseCount ws k → FitAt ws k n m false → f ≡ record { broken = OfArms; «record» = p } → TypedAt ws (Seen b s) p (Err f)
+  match-misarmed b p m k n s σ f h r d c a e = subst (λ g. TypedAt ws (Seen b s) p (Err g)) (sym e) (misarmed ws (Seen b s) p m k h (chosen b p m k s σ d r) (counted-in k n c) (fitting k n m _ c a))
 
   -- its arms are typed in the scope that it has
   arm-again : (b m k : ℕ) (s u : Entries) (r : Result (Ty × ℕ) TypeFault) → take b u ≡ take b s → ArmAt ws (Seen b u) k m r → ArmAt ws (Seen b s) k m r
@@ -243,21 +247,21 @@ module _ (ws : List Token) where
   arms-again : (b m k : ℕ) (s u : Entries) (τ : Ty) (r : Result (Bool × ℕ) TypeFault) → take b u ≡ take b s → ArmsAt ws (Seen b u) k τ m r → ArmsAt ws (Seen b s) k τ m r
   arms-again b m k s u τ r e h = subst (λ v. ArmsAt ws (scopeOf v) k τ m r) e h
 
-  pub match-first-break : (b p m k n : ℕ) (s u : Entries) (σ : Ty) (f : TypeFault) → at ws p ≡ Some (EXPR MATCH) → TypedAt ws (Seen b s) (p + 1) (Ok (σ, m)) → Some k ≡ enumOf σ → Some n ≡ caseCount ws k → FitAt ws k m true → take b u ≡ take b s → ArmAt ws (Seen b u) k m (Err f) → TypedAt ws (Seen b s) p (Err f)
-  match-first-break b p m k n s u σ f h r d c a e i = first-arm-fault ws (Seen b s) p m k f h (chosen b p m k s σ d r) (counted-in k n c) a (arm-again b m k s u (Err f) e i)
+  pub match-first-break : (b p m k n : ℕ) (s u : Entries) (σ : Ty) (f : TypeFault) → at ws p ≡ Some (EXPR MATCH) → TypedAt ws (Seen b s) (p + 1) (Ok (σ, m)) → Some k ≡ enumOf σ → Some n ≡ caseCount ws k → FitAt ws k n m true → take b u ≡ take b s → ArmAt ws (Seen b u) k m (Err f) → TypedAt ws (Seen b s) p (Err f)
+  match-first-break b p m k n s u σ f h r d c a e i = first-arm-fault ws (Seen b s) p m k f h (chosen b p m k s σ d r) (counted-in k n c) (fitting k n m _ c a) (arm-again b m k s u (Err f) e i)
 
-  pub match-other-break : (b p m k n l : ℕ) (s u v : Entries) (σ τ : Ty) (f : TypeFault) → at ws p ≡ Some (EXPR MATCH) → TypedAt ws (Seen b s) (p + 1) (Ok (σ, m)) → Some k ≡ enumOf σ → Some n ≡ caseCount ws k → FitAt ws k m true → take b u ≡ take b s → ArmAt ws (Seen b u) k m (Ok (τ, l)) → take b v ≡ take b u → ArmsAt ws (Seen b v) k τ l (Err f) → TypedAt ws (Seen b s) p (Err f)
+  pub match-other-break : (b p m k n l : ℕ) (s u v : Entries) (σ τ : Ty) (f : TypeFault) → at ws p ≡ Some (EXPR MATCH) → TypedAt ws (Seen b s) (p + 1) (Ok (σ, m)) → Some k ≡ enumOf σ → Some n ≡ caseCount ws k → FitAt ws k n m true → take b u ≡ take b s → ArmAt ws (Seen b u) k m (Ok (τ, l)) → take b v ≡ take b u → ArmsAt ws (Seen b v) k τ l (Err f) → TypedAt ws (Seen b s) p (Err f)
   match-other-break b p m k n l s u v σ τ f h r d c a e i g j =
-      other-arm-fault ws (Seen b s) p m k l τ f h (chosen b p m k s σ d r) (counted-in k n c) a (arm-again b m k s u (Ok (τ, l)) e i) (arms-again b l k s v τ (Err f) (g ∙ e) j)
+      other-arm-fault ws (Seen b s) p m k l τ f h (chosen b p m k s σ d r) (counted-in k n c) (fitting k n m _ c a) (arm-again b m k s u (Ok (τ, l)) e i) (arms-again b l k s v τ (Err f) (g ∙ e) j)
 
-  pub match-turn : (b p m k n l j : ℕ) (s u v : Entries) (σ τ : Ty) → at ws p ≡ Some (EXPR MATCH) → TypedAt ws (Seen b s) (p + 1) (Ok (σ, m)) → Some k ≡ enumOf σ → Some n ≡ caseCount ws k → FitAt ws k m true → take b u ≡ take b s → ArmAt ws (Seen b u) k m (Ok (τ, l)) → take b v ≡ take b u → (alike : Bool) → ArmsAt ws (Seen b v) k τ l (Ok (alike, j)) → alike ≡ true → TypedAt ws (Seen b s) p (Ok (τ, j))
+  pub match-turn : (b p m k n l j : ℕ) (s u v : Entries) (σ τ : Ty) → at ws p ≡ Some (EXPR MATCH) → TypedAt ws (Seen b s) (p + 1) (Ok (σ, m)) → Some k ≡ enumOf σ → Some n ≡ caseCount ws k → FitAt ws k n m true → take b u ≡ take b s → ArmAt ws (Seen b u) k m (Ok (τ, l)) → take b v ≡ take b u → (alike : Bool) → ArmsAt ws (Seen b v) k τ l (Ok (alike, j)) → alike ≡ true → TypedAt ws (Seen b s) p (Ok (τ, j))
   match-turn b p m k n l j s u v σ τ h r d c a e i g x o y =
-      match-typed ws (Seen b s) p m k l j τ h (chosen b p m k s σ d r) (counted-in k n c) a (arm-again b m k s u (Ok (τ, l)) e i) (arms-again b l k s v τ (Ok (true, j)) (g ∙ e) (subst (λ z. ArmsAt ws (Seen b v) k τ l (Ok (z, j))) y o))
+      match-typed ws (Seen b s) p m k l j τ h (chosen b p m k s σ d r) (counted-in k n c) (fitting k n m _ c a) (arm-again b m k s u (Ok (τ, l)) e i) (arms-again b l k s v τ (Ok (true, j)) (g ∙ e) (subst (λ z. ArmsAt ws (Seen b v) k τ l (Ok (z, j))) y o))
 
-  pub match-differ : (b p m k n l j : ℕ) (s u v : Entries) (σ τ : Ty) (f : TypeFault) → at ws p ≡ Some (EXPR MATCH) → TypedAt ws (Seen b s) (p + 1) (Ok (σ, m)) → Some k ≡ enumOf σ → Some n ≡ caseCount ws k → FitAt ws k m true → take b u ≡ take b s → ArmAt ws (Seen b u) k m (Ok (τ, l)) → take b v ≡ take b u → (alike : Bool) → ArmsAt ws (Seen b v) k τ l (Ok (alike, j)) → alike ≡ false → f ≡ record { broken = Mistyped; «record» = p } → TypedAt ws (Seen b s) p (Err f)
+  pub match-differ : (b p m k n l j : ℕ) (s u v : Entries) (σ τ : Ty) (f : TypeFault) → at ws p ≡ Some (EXPR MATCH) → TypedAt ws (Seen b s) (p + 1) (Ok (σ, m)) → Some k ≡ enumOf σ → Some n ≡ caseCount ws k → FitAt ws k n m true → take b u ≡ take b s → ArmAt ws (Seen b u) k m (Ok (τ, l)) → take b v ≡ take b u → (alike : Bool) → ArmsAt ws (Seen b v) k τ l (Ok (alike, j)) → alike ≡ false → f ≡ record { broken = Mistyped; «record» = p } → TypedAt ws (Seen b s) p (Err f)
   match-differ b p m k n l j s u v σ τ f h r d c a e i g x o y q =
       subst (λ z. TypedAt ws (Seen b s) p (Err z)) (sym q)
-      (arms-differ ws (Seen b s) p m k l j τ h (chosen b p m k s σ d r) (counted-in k n c) a (arm-again b m k s u (Ok (τ, l)) e i) (arms-again b l k s v τ (Ok (false, j)) (g ∙ e) (subst (λ z. ArmsAt ws (Seen b v) k τ l (Ok (z, j))) y o)))
+      (arms-differ ws (Seen b s) p m k l j τ h (chosen b p m k s σ d r) (counted-in k n c) (fitting k n m _ c a) (arm-again b m k s u (Ok (τ, l)) e i) (arms-again b l k s v τ (Ok (false, j)) (g ∙ e) (subst (λ z. ArmsAt ws (Seen b v) k τ l (Ok (z, j))) y o)))
 
   -- an arm
   pub arm-lost : (b p k : ℕ) (s : Entries) (r : Result (Ty × ℕ) TypeFault) → None ≡ armOf (at ws p) → ArmAt ws (Seen b s) k p r

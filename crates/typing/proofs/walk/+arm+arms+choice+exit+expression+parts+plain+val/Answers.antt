@@ -13,7 +13,7 @@ use Rattle.numbering.proofs.Indexed.{at-below}
 use Rattle.rules.specs.Listed.{typesOf}
 use Rattle.rules.specs.Places.{headOf, typeOf}
 use Rattle.rules.proofs.Backs.{stands, arm-is}
-use Rattle.typing.proofs.Turns.{Seen, pushed, bound-one, bound-all, few-types, same-so, not-same, fewer, later, no-sooner, no-head, leaf-turn, leaf-break, val-break, val-turn, exit-lost, exit-break, exit-wrong, exit-turn, parts-done, parts-break, parts-turn, few-parts, plain-break, plain-turn, plain-wrong, match-break, match-no-enum, so-many-cases, match-no-cases, match-misarmed, match-first-break, match-other-break, match-turn, match-differ, arm-lost, arm-turn, closed-below, arms-done, arms-break, arms-other-break, arms-turn}
+use Rattle.typing.proofs.Turns.{Seen, pushed, bound-one, bound-all, few-types, same-so, not-same, fewer, later, no-sooner, no-head, leaf-turn, leaf-break, val-break, val-turn, exit-lost, exit-break, exit-wrong, exit-turn, parts-done, parts-break, parts-turn, few-parts, plain-break, plain-turn, plain-wrong, match-break, match-no-enum, match-no-cases, match-misarmed, match-first-break, match-other-break, match-turn, match-differ, arm-lost, arm-turn, closed-below, arms-done, arms-break, arms-other-break, arms-turn}
 use Rattle.typing.proofs.walk.+arm+arms+choice+exit+expression+parts+plain+val.Needs as need
 
 pub val-add-at : need.val-add-at
@@ -242,10 +242,6 @@ choice-returns-in-rest-cases t c =
       kept = c .in-Continue-ty .ensures tt .kept;
       is = match-no-cases (tokensIn (c .args .card .now)) (c .args .bound) (c .args .at) (c .in-Continue-ty .first) (c .in-Some .of) (c .args .scope .now) (c .in-Continue-ty .ty) _ (c .pre .here) (c .in-Continue-ty .ensures tt .is) (c .in-Some .ensures tt) (c .in-rest-cases .ensures tt) (c .fault-in-rest-cases .ensures);
     }
-
-pub choice-arms-fit-requires : need.choice-arms-fit-requires
-choice-arms-fit-requires t c κs =
-    so-many-cases (tokensIn (c .args .card .now)) (c .in-Some .of) (c .in-Some-cases .cases) (c .in-Some-cases .ensures tt)
 
 pub choice-returns-then-not-arms-fit : need.choice-returns-then-not-arms-fit
 choice-returns-then-not-arms-fit t c =
