@@ -1,3 +1,5 @@
+#![tactic(auto)]
+
 // What the rule of each construct does, once its first parts have their values.
 mod binding;
 mod call;

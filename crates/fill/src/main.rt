@@ -1,3 +1,5 @@
+#![tactic(auto)]
+
 // Fills a pair of pairs past its most and prints what each put and get answered.
 ghost use Rattle.std.specs.Prelude.{◌≡◌};
 ghost use Rattle.stores.specs.Plain.{written};

@@ -1,3 +1,5 @@
+#![tactic(auto)]
+
 mod descent;
 
 pub use descent::{Misplaced, placed};

@@ -24,7 +24,7 @@ fn lettered(image: &[u8]) -> bool
     requires { 3 ≤ length image.now }
     ensures { result ≡ has_letters image.now }
 {
-    &image[0..3] == b"RUL"
+    &image[0..3] == b"RUL".as_slice()
 }
 
 impl Header {

@@ -1,3 +1,5 @@
+#![tactic(auto)]
+
 mod header;
 mod reader;
 mod record;

@@ -1,3 +1,5 @@
+#![tactic(auto)]
+
 ghost use Rattle.machine.specs.Claims.{RunsByTheRules, TurnsAddUp, AlikeOverStores, AlikeOverEqualMosts, KInTurns};
 
 // What is proved of every run, once, by the rules and turn by turn: a typed run has one outcome,

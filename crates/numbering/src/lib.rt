@@ -1,3 +1,5 @@
+#![tactic(auto)]
+
 mod ends;
 mod found;
 mod layout;

@@ -1,3 +1,5 @@
+#![tactic(auto)]
+
 // The tables of a card that a run uses.
 mod function;
 mod program;

@@ -1,3 +1,5 @@
+#![tactic(auto)]
+
 mod arms;
 mod by_kind;
 mod declared;

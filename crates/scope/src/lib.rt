@@ -1,3 +1,5 @@
+#![tactic(auto)]
+
 ghost use Rattle.std.specs.Prelude.{◌≡◌, ◌+◌, true, false, ◌&&◌, ltb, ◌∷◌, length, take, drop, set, if◌then◌else◌, nat_le, nat_lt};
 ghost use Rattle.battery.specs.Tree.{find, bind as bound};
 ghost use Rattle.scope.specs.Bound.{scope_of};

@@ -1,3 +1,5 @@
+#![tactic(auto)]
+
 mod pair;
 mod plain;
 mod store;

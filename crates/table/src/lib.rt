@@ -1,3 +1,5 @@
+#![tactic(auto)]
+
 mod name;
 mod pass;
 mod row;

@@ -1,3 +1,5 @@
+#![tactic(auto)]
+
 mod functions;
 mod walk;
 

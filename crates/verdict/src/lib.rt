@@ -1,3 +1,5 @@
+#![tactic(auto)]
+
 ghost use Rattle.verdict.specs.Claims.{ReadsExactly, SpeltUnlessMisplaced, MisplacedFirst, FaultlessIfTyped, FirstBroken, AcceptsExactlyTheTyped, OneCard, TypingFaults, RefusesExactly, FormedByForm, SpeltInSequence};
 ghost use Rattle.verdict.specs.Cases.{KAccepted, KWithout4, KWithout16};
 

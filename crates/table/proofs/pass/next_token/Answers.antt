@@ -8,9 +8,9 @@ use Rattle.table.proofs.pass.next_token.Goals as goal
 pub returns-in-Some : goal.returns-in-Some
 unfolding token_in
 returns-in-Some c = record {
-  given = c.token-of.ensures ∙ ap (λ o. o ▸ token_of) c.in-Some.ensures.given;
+  given = c.token_of.ensures ∙ ap (λ o. o ▸ token_of) c.in-Some.ensures.given;
   image = search rules;
-  place = either_way c.token-of.result c.in-Some.ensures.place;
+  place = either_way c.token_of.result c.in-Some.ensures.place;
 }
 
 pub returns-in-None : goal.returns-in-None

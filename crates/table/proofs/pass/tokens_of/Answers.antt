@@ -10,7 +10,7 @@ loop-i-init c =
 
 pub loop-i-preserved : goal.loop-i-preserved
 loop-i-preserved c =
-    passed_more c.args.reader.image.now c.args.reader.place (length c.args.tokens.now) c.loop-i.tokens c.loop-i.reader.image.now c.next-token.new.reader.image.now c.loop-i.reader.place c.next-token.new.reader.place c.loop-i.i c.in-Some.known (omega arith) c.loop-i-test.true c.loop-i.invariant.0 c.in-Some.ensures.image c.in-Some.ensures.place c.in-Some.ensures.given c.loop-i.invariant.1
+    passed_more c.args.reader.image.now c.args.reader.place (length c.args.tokens.now) c.loop-i.tokens c.loop-i.reader.image.now c.next_token.new.reader.image.now c.loop-i.reader.place c.next_token.new.reader.place c.loop-i.i c.in-Some.known (omega arith) c.loop-i-test.true c.loop-i.invariant.0 c.in-Some.ensures.image c.in-Some.ensures.place c.in-Some.ensures.given c.loop-i.invariant.1
 
 pub returns : goal.returns
 returns c =
