@@ -6,9 +6,9 @@ use Rattle.frames.specs.Views.{vals}
 use Rattle.constructs.proofs.Bindings.{call_none, call_not, call_did}
 use Rattle.constructs.proofs.call.call.Goals as goal
 
-pub returns-in-default : goal.returns-in-default
-returns-in-default c =
-    call_none c.args.program.now c.args.w.now c.requires.1.0 c.args.f c.requires.0.start c.requires.1.1 c.args.entries.now (c.in-default.ensures (card_in c.args.program.now) (spelt_card c.args.program.now))
+pub returns-in_default : goal.returns-in_default
+returns-in_default c =
+    call_none c.args.program.now c.args.w.now c.requires.1.0 c.args.f c.requires.0.start c.requires.1.1 c.args.entries.now (c.in_default.ensures (card_in c.args.program.now) (spelt_card c.args.program.now))
 
 pub returns-then-called-w : goal.returns-then-called-w
 returns-then-called-w c =

@@ -4,15 +4,15 @@ use Rattle.constructs.proofs.Moves.{node_of}
 use Rattle.constructs.proofs.Celled.{exit_none, exit_no_text, exit_did}
 use Rattle.constructs.proofs.make.exit.Goals as goal
 
-pub returns-in-default : goal.returns-in-default
-returns-in-default g c =
+pub returns-in_default : goal.returns-in_default
+returns-in_default g c =
     let n = node_of c.args.program.now c.args.w.now.job.at EXIT c.requires.0.start c.requires.1 in
-    exit_none c.args.program.now c.args.w.now (g.S.Store.cells c.args.store.now) _ _ n.1.1 c.in-default.ensures
+    exit_none c.args.program.now c.args.w.now (g.S.Store.cells c.args.store.now) _ _ n.1.1 c.in_default.ensures
 
-pub returns-in-default-text-at : goal.returns-in-default-text-at
-returns-in-default-text-at g c =
+pub returns-in_default-text-at : goal.returns-in_default-text-at
+returns-in_default-text-at g c =
     let n = node_of c.args.program.now c.args.w.now.job.at EXIT c.requires.0.start c.requires.1 in
-    exit_no_text c.args.program.now c.args.w.now (g.S.Store.cells c.args.store.now) _ _ n.1.1 c.in-Some.v c.in-Some.ensures c.in-default-text-at.ensures
+    exit_no_text c.args.program.now c.args.w.now (g.S.Store.cells c.args.store.now) _ _ n.1.1 c.in-Some.v c.in-Some.ensures c.in_default-text-at.ensures
 
 pub returns : goal.returns
 returns g c =

@@ -6,8 +6,8 @@ use Rattle.program.specs.Views.{tokens_in, text_in}
 use Rattle.constructs.proofs.Armed.{armed, unarmed, arm_hit, arm_miss, arm_found, next_arms}
 use Rattle.constructs.proofs.matching.arm_for.Goals as goal
 
-pub overflow-add-result : goal.overflow-add-result
-overflow-add-result c = let h = (armed c.args.program.now c.loop-arm.place c.in-Some.arm c.loop-arm.invariant.0 c.in-Some.ensures).within in omega arith
+pub overflow_add-result : goal.overflow_add-result
+overflow_add-result c = let h = (armed c.args.program.now c.loop-arm.place c.in-Some.arm c.loop-arm.invariant.0 c.in-Some.ensures).within in omega arith
 
 pub returns-then-case-arm : goal.returns-then-case-arm
 returns-then-case-arm c =
@@ -15,8 +15,8 @@ returns-then-case-arm c =
     let h = armed k c.loop-arm.place c.in-Some.arm c.loop-arm.invariant.0 c.in-Some.ensures in
     arm_found k c.loop-arm.place c.in-Some.arm _ h (sym c.loop-arm.invariant.1 ∙ arm_hit k c.loop-arm.place c.args.case c.in-Some.arm h c.if-case-arm.true)
 
-pub overflow-add-place : goal.overflow-add-place
-overflow-add-place c = let h = (armed c.args.program.now c.loop-arm.place c.in-Some.arm c.loop-arm.invariant.0 c.in-Some.ensures).within in omega arith
+pub overflow_add-place : goal.overflow_add-place
+overflow_add-place c = let h = (armed c.args.program.now c.loop-arm.place c.in-Some.arm c.loop-arm.invariant.0 c.in-Some.ensures).within in omega arith
 
 pub loop-arm-smaller : goal.loop-arm-smaller
 loop-arm-smaller c =
@@ -36,5 +36,5 @@ pub returns : goal.returns
 returns c =
     let k = c.args.program.now in
     let q : arm_of (arms_at (text_in k) (tokens_in k) c.args.from) c.args.case ≡ None =
-    sym c.loop-arm.invariant.1 ∙ ap (λ m. arm_of m c.args.case) (unarmed k c.loop-arm.place c.loop-arm.invariant.0 c.in-default.ensures) in
+    sym c.loop-arm.invariant.1 ∙ ap (λ m. arm_of m c.args.case) (unarmed k c.loop-arm.place c.loop-arm.invariant.0 c.in_default.ensures) in
     rw q tt

@@ -11,15 +11,15 @@ use Rattle.constructs.proofs.Celled.{values_few}
 use Rattle.constructs.proofs.Armed.{next_arms, match_none, match_no_enum, match_no_arm, match_not, match_did}
 use Rattle.constructs.proofs.matching.matching.Goals as goal
 
-pub returns-in-default : goal.returns-in-default
-returns-in-default g c =
+pub returns-in_default : goal.returns-in_default
+returns-in_default g c =
     let n = node_of c.args.program.now c.args.w.now.job.at MATCH c.requires.0.start c.requires.1 in
-    match_none c.args.program.now c.args.w.now (g.S.Store.cells c.args.store.now) _ _ n.2 c.args.entries.now c.in-default.ensures
+    match_none c.args.program.now c.args.w.now (g.S.Store.cells c.args.store.now) _ _ n.2 c.args.entries.now c.in_default.ensures
 
-pub returns-in-default-enum-at : goal.returns-in-default-enum-at
-returns-in-default-enum-at g c =
+pub returns-in_default-enum-at : goal.returns-in_default-enum-at
+returns-in_default-enum-at g c =
     let n = node_of c.args.program.now c.args.w.now.job.at MATCH c.requires.0.start c.requires.1 in
-    match_no_enum c.args.program.now c.args.w.now (g.S.Store.cells c.args.store.now) _ _ n.2 c.args.entries.now c.in-Some.v c.in-Some.ensures c.in-default-enum-at.ensures
+    match_no_enum c.args.program.now c.args.w.now (g.S.Store.cells c.args.store.now) _ _ n.2 c.args.entries.now c.in-Some.v c.in-Some.ensures c.in_default-enum-at.ensures
 
 pub arm-for-requires : goal.arm-for-requires
 arm-for-requires g c =
@@ -27,15 +27,15 @@ arm-for-requires g c =
     let n = node_of k c.args.w.now.job.at MATCH c.requires.0.start c.requires.1 in
     (next_arms k c.args.w.now.job.at c.end-from.result c.end-from.ensures n.1).1
 
-pub returns-in-default-arm-for : goal.returns-in-default-arm-for
-returns-in-default-arm-for g c =
+pub returns-in_default-arm-for : goal.returns-in_default-arm-for
+returns-in_default-arm-for g c =
     let k = c.args.program.now in
     let w = c.args.w.now in
     let value = c.in-Some-enum-at.value in
     let n = node_of k w.job.at MATCH c.requires.0.start c.requires.1 in
     let q = (next_arms k w.job.at c.end-from.result c.end-from.ensures n.1).0 in
     match_no_arm k w (g.S.Store.cells c.args.store.now) _ _ n.2 c.in-Some.v (enum_of value) c.in-Some.ensures c.in-Some-enum-at.ensures c.args.entries.now
-    (subst (λ m. OfArm (text_in k) (tokens_in k) (arm_of (arms_at (text_in k) (tokens_in k) m) value.case) None) q c.in-default-arm-for.ensures)
+    (subst (λ m. OfArm (text_in k) (tokens_in k) (arm_of (arms_at (text_in k) (tokens_in k) m) value.case) None) q c.in_default-arm-for.ensures)
 
 pub returns-then-fields-arm : goal.returns-then-fields-arm
 returns-then-fields-arm g c =

@@ -6,15 +6,15 @@ use Rattle.frames.specs.Trees.{after_it}
 use Rattle.constructs.proofs.plain.branch.Goals.{then-yes, else-yes}
 use Rattle.constructs.proofs.plain.branch.Goals as goal
 
-pub returns-in-default : goal.returns-in-default
-returns-in-default c most es cs =
+pub returns-in_default : goal.returns-in_default
+returns-in_default c most es cs =
     let n = node_of c.args.program.now c.args.w.now.job.at IF c.requires.0.start c.requires.1 in
-    record { does = rw (n.1, ← c.in-default.ensures); kept = refl; agree = refl; leads = tt }
+    record { does = rw (n.1, ← c.in_default.ensures); kept = refl; agree = refl; leads = tt }
 
-pub returns-in-default-boolean : goal.returns-in-default-boolean
-returns-in-default-boolean c most es cs =
+pub returns-in_default-boolean : goal.returns-in_default-boolean
+returns-in_default-boolean c most es cs =
     let n = node_of c.args.program.now c.args.w.now.job.at IF c.requires.0.start c.requires.1 in
-    record { does = rw (n.1, ← c.in-Some.ensures, ← c.in-default-boolean.ensures); kept = refl; agree = refl; leads = tt }
+    record { does = rw (n.1, ← c.in-Some.ensures, ← c.in_default-boolean.ensures); kept = refl; agree = refl; leads = tt }
 
 pub returns : goal.returns
 returns c most es cs =

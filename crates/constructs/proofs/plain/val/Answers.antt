@@ -7,10 +7,10 @@ use Rattle.table.specs.declared.token.Pair.TheVariants.{Val as VAL}
 use Rattle.constructs.proofs.Moves.{node_of, behind_first}
 use Rattle.constructs.proofs.plain.val.Goals as goal
 
-pub returns-in-default : goal.returns-in-default
-returns-in-default c most cs =
+pub returns-in_default : goal.returns-in_default
+returns-in_default c most cs =
     let n = node_of c.args.program.now c.args.w.now.job.at (PAIR (VAL c.args.name)) c.requires.0.start c.requires.1 in
-    record { does = rw (n.1, ← c.in-default.ensures); kept = refl; agree = refl; leads = tt }
+    record { does = rw (n.1, ← c.in_default.ensures); kept = refl; agree = refl; leads = tt }
 
 pub returns : goal.returns
 returns c =

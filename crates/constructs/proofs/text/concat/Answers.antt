@@ -7,38 +7,38 @@ use Rattle.constructs.proofs.Moves.{node_of}
 use Rattle.constructs.proofs.Celled.{put_did, stuck_did, concat_no_first, concat_no_second, concat_long, concat_puts}
 use Rattle.constructs.proofs.text.concat.Goals as goal
 
-pub returns-in-default : goal.returns-in-default
-returns-in-default g c =
+pub returns-in_default : goal.returns-in_default
+returns-in_default g c =
     let n = node_of c.args.program.now c.args.w.now.job.at (PAIR CONCAT) c.requires.0.start c.requires.1 in
-    record { most = refl {a = g.S.Store.limit c.args.store.now}; does = λ es. stuck_did c.args.program.now c.args.w.now (g.S.Store.limit c.args.store.now) es (g.S.Store.cells c.args.store.now) (rw (n.1, ← c.in-default.ensures)) }
+    record { most = refl {a = g.S.Store.limit c.args.store.now}; does = λ es. stuck_did c.args.program.now c.args.w.now (g.S.Store.limit c.args.store.now) es (g.S.Store.cells c.args.store.now) (rw (n.1, ← c.in_default.ensures)) }
 
-pub returns-in-default-text-at : goal.returns-in-default-text-at
-returns-in-default-text-at g c =
+pub returns-in_default-text-at : goal.returns-in_default-text-at
+returns-in_default-text-at g c =
     let k = c.args.program.now in
     let n = node_of k c.args.w.now.job.at (PAIR CONCAT) c.requires.0.start c.requires.1 in
     record {
       most = refl {a = g.S.Store.limit c.args.store.now};
-      does = concat_no_first k c.args.w.now _ (g.S.Store.cells c.args.store.now) _ _ c.in-Some.a c.in-Some.b n.1 c.in-Some.ensures c.in-default-text-at.ensures;
+      does = concat_no_first k c.args.w.now _ (g.S.Store.cells c.args.store.now) _ _ c.in-Some.a c.in-Some.b n.1 c.in-Some.ensures c.in_default-text-at.ensures;
     }
 
-pub returns-in-default-text-at-2 : goal.returns-in-default-text-at-2
-returns-in-default-text-at-2 g c =
+pub returns-in_default-text-at-2 : goal.returns-in_default-text-at-2
+returns-in_default-text-at-2 g c =
     let k = c.args.program.now in
     let n = node_of k c.args.w.now.job.at (PAIR CONCAT) c.requires.0.start c.requires.1 in
     record {
       most = refl {a = g.S.Store.limit c.args.store.now};
       does = concat_no_second k c.args.w.now _ (g.S.Store.cells c.args.store.now) _ _ c.in-Some.a c.in-Some.b (text_of c.in-Some-text-at.s)
-          n.1 c.in-Some.ensures c.in-Some-text-at.ensures c.in-default-text-at-2.ensures;
+          n.1 c.in-Some.ensures c.in-Some-text-at.ensures c.in_default-text-at-2.ensures;
     }
 
-pub returns-in-default-joined : goal.returns-in-default-joined
-returns-in-default-joined g c =
+pub returns-in_default-joined : goal.returns-in_default-joined
+returns-in_default-joined g c =
     let k = c.args.program.now in
     let n = node_of k c.args.w.now.job.at (PAIR CONCAT) c.requires.0.start c.requires.1 in
     record {
       most = refl {a = g.S.Store.limit c.args.store.now};
       does = concat_long k c.args.w.now _ (g.S.Store.cells c.args.store.now) _ _ c.in-Some.a c.in-Some.b (text_of c.in-Some-text-at.s) (text_of c.in-Some-text-at-2.t)
-          n.1 c.in-Some.ensures c.in-Some-text-at.ensures c.in-Some-text-at-2.ensures c.in-default-joined.ensures;
+          n.1 c.in-Some.ensures c.in-Some-text-at.ensures c.in-Some-text-at-2.ensures c.in_default-joined.ensures;
     }
 
 pub returns : goal.returns

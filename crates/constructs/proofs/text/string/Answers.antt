@@ -3,9 +3,9 @@ use Rattle.cells.specs.Meaning.{text_of}
 use Rattle.constructs.proofs.Celled.{put_did, string_puts, string_never}
 use Rattle.constructs.proofs.text.string.Goals as goal
 
-pub returns-in-default : goal.returns-in-default
-returns-in-default g c =
-    absurd (string_never c.args.program.now c.args.w.now.job.at c.args.place c.args.bytes c.requires.0.start c.requires.1 c.in-default.ensures)
+pub returns-in_default : goal.returns-in_default
+returns-in_default g c =
+    absurd (string_never c.args.program.now c.args.w.now.job.at c.args.place c.args.bytes c.requires.0.start c.requires.1 c.in_default.ensures)
 
 pub returns : goal.returns
 returns g c =

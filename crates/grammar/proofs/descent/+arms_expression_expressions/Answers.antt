@@ -13,7 +13,7 @@ arms-returns-then-not-branch t c =
       ends = search rules;
       is =
           token c.args.tokens.now c.args.at (λ K. want_arms c.args.matching c.args.some ∷ K) (Some c.args.matching)
-          (told c.args.tokens.now c.args.at (λ K. want_arms c.args.matching c.args.some ∷ K) (after_arm c.args.matching) c.in-ok-arm.field-0 false c.in-ok-arm.ensures.1 c.if-not-branch.true);
+          (told c.args.tokens.now c.args.at (λ K. want_arms c.args.matching c.args.some ∷ K) (after_arm c.args.matching) c.in_ok-arm.field-0 false c.in_ok-arm.ensures.1 c.if-not-branch.true);
     }
 
 pub arms-returns : goal.arms-returns
@@ -22,34 +22,34 @@ arms-returns t c =
       ends = search rules;
       is =
           step c.args.tokens.now c.args.at (λ K. want_arms c.args.matching c.args.some ∷ K) (after_arm c.args.matching true) (Some c.args.matching) (Some c.args.matching) c.arms.result
-          (told c.args.tokens.now c.args.at (λ K. want_arms c.args.matching c.args.some ∷ K) (after_arm c.args.matching) c.in-ok-arm.field-0 true c.in-ok-arm.ensures.1 c.if-not-branch.false) (λ K h. refl)
-          (both c.args.tokens.now (c.args.at + 1) c.in-ok-next.next (λ K. want_expr ∷ K) (λ K. want_arms c.args.matching true ∷ K) (Some c.args.matching) (Some c.args.matching) c.arms.result c.in-ok-next.ensures.is (λ K h. refl) c.arms.ensures.is);
+          (told c.args.tokens.now c.args.at (λ K. want_arms c.args.matching c.args.some ∷ K) (after_arm c.args.matching) c.in_ok-arm.field-0 true c.in_ok-arm.ensures.1 c.if-not-branch.false) (λ K h. refl)
+          (both c.args.tokens.now (c.args.at + 1) c.in_ok-next.next (λ K. want_expr ∷ K) (λ K. want_arms c.args.matching true ∷ K) (Some c.args.matching) (Some c.args.matching) c.arms.result c.in_ok-next.ensures.is (λ K h. refl) c.arms.ensures.is);
     }
 
-pub arms-returns-in-err-arm : goal.arms-returns-in-err-arm
-arms-returns-in-err-arm t c =
-    let p = err_from_is_err_and c.from-residual.result c.from-residual.ensures.1 in
+pub arms-returns-in_err-arm : goal.arms-returns-in_err-arm
+arms-returns-in_err-arm t c =
+    let p = err_from_is_err_and c.from_residual.result c.from_residual.ensures.1 in
     rw (p.1, p.2) (record {
       ends = tt;
       is =
-          stop c.args.tokens.now c.args.at (want_arms c.args.matching c.args.some) (Some c.args.matching) c.in-err-arm.field-0.0 c.in-err-arm.ensures;
+          stop c.args.tokens.now c.args.at (want_arms c.args.matching c.args.some) (Some c.args.matching) c.in_err-arm.field-0.0 c.in_err-arm.ensures;
     })
 
-pub arms-returns-in-err-next : goal.arms-returns-in-err-next
-arms-returns-in-err-next t c =
-    let p = err_from_is_err_and c.from-residual-in-err-next.result c.from-residual-in-err-next.ensures.1 in
+pub arms-returns-in_err-next : goal.arms-returns-in_err-next
+arms-returns-in_err-next t c =
+    let p = err_from_is_err_and c.from_residual-in_err-next.result c.from_residual-in_err-next.ensures.1 in
     rw (p.1, p.2) (record {
       ends = tt;
       is =
-          step c.args.tokens.now c.args.at (λ K. want_arms c.args.matching c.args.some ∷ K) (after_arm c.args.matching true) (Some c.args.matching) (Some c.args.matching) (Err c.in-err-next.field-0.0)
-          (told c.args.tokens.now c.args.at (λ K. want_arms c.args.matching c.args.some ∷ K) (after_arm c.args.matching) c.in-ok-arm.field-0 true c.in-ok-arm.ensures.1 c.if-not-branch.false) (λ K h. refl)
-          (first c.args.tokens.now (c.args.at + 1) (λ K. want_expr ∷ K) (λ K. want_arms c.args.matching true ∷ K) (Some c.args.matching) c.in-err-next.field-0.0 c.in-err-next.ensures.is);
+          step c.args.tokens.now c.args.at (λ K. want_arms c.args.matching c.args.some ∷ K) (after_arm c.args.matching true) (Some c.args.matching) (Some c.args.matching) (Err c.in_err-next.field-0.0)
+          (told c.args.tokens.now c.args.at (λ K. want_arms c.args.matching c.args.some ∷ K) (after_arm c.args.matching) c.in_ok-arm.field-0 true c.in_ok-arm.ensures.1 c.if-not-branch.false) (λ K h. refl)
+          (first c.args.tokens.now (c.args.at + 1) (λ K. want_expr ∷ K) (λ K. want_arms c.args.matching true ∷ K) (Some c.args.matching) c.in_err-next.field-0.0 c.in_err-next.ensures.is);
     })
 
-pub expression-returns-in-err-head : goal.expression-returns-in-err-head
-expression-returns-in-err-head t c =
-    let p = err_from_is_err_and c.from-residual.result c.from-residual.ensures.1 in
-    rw (p.1, p.2) (record { ends = tt; is = stop c.args.tokens.now c.args.at want_expr c.args.group c.in-err-head.field-0.0 c.in-err-head.ensures })
+pub expression-returns-in_err-head : goal.expression-returns-in_err-head
+expression-returns-in_err-head t c =
+    let p = err_from_is_err_and c.from_residual.result c.from_residual.ensures.1 in
+    rw (p.1, p.2) (record { ends = tt; is = stop c.args.tokens.now c.args.at want_expr c.args.group c.in_err-head.field-0.0 c.in_err-head.ensures })
 
 pub expression-returns-in-Leaf : goal.expression-returns-in-Leaf
 expression-returns-in-Leaf t c =
@@ -57,7 +57,7 @@ expression-returns-in-Leaf t c =
       ends = search rules;
       is =
           token c.args.tokens.now c.args.at (λ K. want_expr ∷ K) c.args.group
-          (told c.args.tokens.now c.args.at (λ K. want_expr ∷ K) (λ h K. parts c.args.at K h) c.in-ok-head.field-0 (Leaf c.in-Leaf.field-0) c.in-ok-head.ensures.1 c.in-Leaf.is);
+          (told c.args.tokens.now c.args.at (λ K. want_expr ∷ K) (λ h K. parts c.args.at K h) c.in_ok-head.field-0 (Leaf c.in-Leaf.field-0) c.in_ok-head.ensures.1 c.in-Leaf.is);
     }
 
 pub expression-returns-in-Pair : goal.expression-returns-in-Pair
@@ -66,7 +66,7 @@ expression-returns-in-Pair t c =
       ends = search rules;
       is =
           step c.args.tokens.now c.args.at (λ K. want_expr ∷ K) (expecting 2 want_expr) c.args.group c.args.group c.expressions.result
-          (told c.args.tokens.now c.args.at (λ K. want_expr ∷ K) (λ h K. parts c.args.at K h) c.in-ok-head.field-0 (Pair c.in-Pair.field-0) c.in-ok-head.ensures.1 c.in-Pair.is) (λ K h. h) c.expressions.ensures.is;
+          (told c.args.tokens.now c.args.at (λ K. want_expr ∷ K) (λ h K. parts c.args.at K h) c.in_ok-head.field-0 (Pair c.in-Pair.field-0) c.in_ok-head.ensures.1 c.in-Pair.is) (λ K h. h) c.expressions.ensures.is;
     }
 
 pub expression-returns-in-If : goal.expression-returns-in-If
@@ -75,7 +75,7 @@ expression-returns-in-If t c =
       ends = search rules;
       is =
           step c.args.tokens.now c.args.at (λ K. want_expr ∷ K) (expecting 3 want_expr) c.args.group c.args.group c.expressions-in-If.result
-          (told c.args.tokens.now c.args.at (λ K. want_expr ∷ K) (λ h K. parts c.args.at K h) c.in-ok-head.field-0 If c.in-ok-head.ensures.1 c.in-If.is) (λ K h. h) c.expressions-in-If.ensures.is;
+          (told c.args.tokens.now c.args.at (λ K. want_expr ∷ K) (λ h K. parts c.args.at K h) c.in_ok-head.field-0 If c.in_ok-head.ensures.1 c.in-If.is) (λ K h. h) c.expressions-in-If.ensures.is;
     }
 
 pub expression-returns-in-Many : goal.expression-returns-in-Many
@@ -84,49 +84,49 @@ expression-returns-in-Many t c =
       ends = search rules;
       is =
           step c.args.tokens.now c.args.at (λ K. want_expr ∷ K) (expecting c.in-Many.n want_expr) c.args.group c.args.group c.expressions-in-Many.result
-          (told c.args.tokens.now c.args.at (λ K. want_expr ∷ K) (λ h K. parts c.args.at K h) c.in-ok-head.field-0 (Many c.in-Many.n c.in-Many.field-1) c.in-ok-head.ensures.1 c.in-Many.is) (λ K h. group_exprs c.in-Many.n K ∙ h) c.expressions-in-Many.ensures.is;
+          (told c.args.tokens.now c.args.at (λ K. want_expr ∷ K) (λ h K. parts c.args.at K h) c.in_ok-head.field-0 (Many c.in-Many.n c.in-Many.field-1) c.in_ok-head.ensures.1 c.in-Many.is) (λ K h. group_exprs c.in-Many.n K ∙ h) c.expressions-in-Many.ensures.is;
     }
 
-pub expression-returns-in-ok-first : goal.expression-returns-in-ok-first
-expression-returns-in-ok-first t c =
+pub expression-returns-in_ok-first-in-Match : goal.expression-returns-in_ok-first-in-Match
+expression-returns-in_ok-first-in-Match t c =
     record {
       ends = search rules;
       is =
           step c.args.tokens.now c.args.at (λ K. want_expr ∷ K) (λ K. parts c.args.at K Match) c.args.group (Some c.args.at) c.arms.result
-          (told c.args.tokens.now c.args.at (λ K. want_expr ∷ K) (λ h K. parts c.args.at K h) c.in-ok-head.field-0 Match c.in-ok-head.ensures.1 c.in-Match.is) (λ K h. refl)
-          (both c.args.tokens.now (c.args.at + 1) c.in-ok-first.first (λ K. want_expr ∷ K) (λ K. want_arms c.args.at false ∷ K) (Some c.args.at) (Some c.args.at) c.arms.result c.in-ok-first.ensures.is (λ K h. refl) c.arms.ensures.is);
+          (told c.args.tokens.now c.args.at (λ K. want_expr ∷ K) (λ h K. parts c.args.at K h) c.in_ok-head.field-0 Match c.in_ok-head.ensures.1 c.in-Match.is) (λ K h. refl)
+          (both c.args.tokens.now (c.args.at + 1) c.in_ok-first-in-Match.first (λ K. want_expr ∷ K) (λ K. want_arms c.args.at false ∷ K) (Some c.args.at) (Some c.args.at) c.arms.result c.in_ok-first-in-Match.ensures.is (λ K h. refl) c.arms.ensures.is);
     }
 
-pub expression-returns-in-err-first : goal.expression-returns-in-err-first
-expression-returns-in-err-first t c =
-    let p = err_from_is_err_and c.from-residual-in-err-first.result c.from-residual-in-err-first.ensures.1 in
+pub expression-returns-in_err-first-in-Match : goal.expression-returns-in_err-first-in-Match
+expression-returns-in_err-first-in-Match t c =
+    let p = err_from_is_err_and c.from_residual-in_err-first-in-Match.result c.from_residual-in_err-first-in-Match.ensures.1 in
     rw (p.1, p.2) (record {
       ends = tt;
       is =
-          step c.args.tokens.now c.args.at (λ K. want_expr ∷ K) (λ K. parts c.args.at K Match) c.args.group (Some c.args.at) (Err c.in-err-first.field-0.0)
-          (told c.args.tokens.now c.args.at (λ K. want_expr ∷ K) (λ h K. parts c.args.at K h) c.in-ok-head.field-0 Match c.in-ok-head.ensures.1 c.in-Match.is) (λ K h. refl)
-          (first c.args.tokens.now (c.args.at + 1) (λ K. want_expr ∷ K) (λ K. want_arms c.args.at false ∷ K) (Some c.args.at) c.in-err-first.field-0.0 c.in-err-first.ensures.is);
+          step c.args.tokens.now c.args.at (λ K. want_expr ∷ K) (λ K. parts c.args.at K Match) c.args.group (Some c.args.at) (Err c.in_err-first-in-Match.field-0.0)
+          (told c.args.tokens.now c.args.at (λ K. want_expr ∷ K) (λ h K. parts c.args.at K h) c.in_ok-head.field-0 Match c.in_ok-head.ensures.1 c.in-Match.is) (λ K h. refl)
+          (first c.args.tokens.now (c.args.at + 1) (λ K. want_expr ∷ K) (λ K. want_arms c.args.at false ∷ K) (Some c.args.at) c.in_err-first-in-Match.field-0.0 c.in_err-first-in-Match.ensures.is);
     })
 
-pub expression-returns-in-ok-part : goal.expression-returns-in-ok-part
-expression-returns-in-ok-part t c =
+pub expression-returns-in_ok-part-in-Exit : goal.expression-returns-in_ok-part-in-Exit
+expression-returns-in_ok-part-in-Exit t c =
     record {
       ends = search rules;
       is =
           step c.args.tokens.now c.args.at (λ K. want_expr ∷ K) (λ K. parts c.args.at K Exit) c.args.group c.args.group c.expression-in-Exit.result
-          (told c.args.tokens.now c.args.at (λ K. want_expr ∷ K) (λ h K. parts c.args.at K h) c.in-ok-head.field-0 Exit c.in-ok-head.ensures.1 c.in-Exit.is) (λ K h. h)
-          (both c.args.tokens.now (c.args.at + 1) c.in-ok-part.part (expecting 1 want_type) (λ K. want_expr ∷ K) c.args.group c.args.group c.expression-in-Exit.result c.in-ok-part.ensures.is (λ K h. h) c.expression-in-Exit.ensures.is);
+          (told c.args.tokens.now c.args.at (λ K. want_expr ∷ K) (λ h K. parts c.args.at K h) c.in_ok-head.field-0 Exit c.in_ok-head.ensures.1 c.in-Exit.is) (λ K h. h)
+          (both c.args.tokens.now (c.args.at + 1) c.in_ok-part-in-Exit.part (expecting 1 want_type) (λ K. want_expr ∷ K) c.args.group c.args.group c.expression-in-Exit.result c.in_ok-part-in-Exit.ensures.is (λ K h. h) c.expression-in-Exit.ensures.is);
     }
 
-pub expression-returns-in-err-part : goal.expression-returns-in-err-part
-expression-returns-in-err-part t c =
-    let p = err_from_is_err_and c.from-residual-in-err-part.result c.from-residual-in-err-part.ensures.1 in
+pub expression-returns-in_err-part-in-Exit : goal.expression-returns-in_err-part-in-Exit
+expression-returns-in_err-part-in-Exit t c =
+    let p = err_from_is_err_and c.from_residual-in_err-part-in-Exit.result c.from_residual-in_err-part-in-Exit.ensures.1 in
     rw (p.1, p.2) (record {
       ends = tt;
       is =
-          step c.args.tokens.now c.args.at (λ K. want_expr ∷ K) (λ K. parts c.args.at K Exit) c.args.group c.args.group (Err c.in-err-part.field-0.0)
-          (told c.args.tokens.now c.args.at (λ K. want_expr ∷ K) (λ h K. parts c.args.at K h) c.in-ok-head.field-0 Exit c.in-ok-head.ensures.1 c.in-Exit.is) (λ K h. h)
-          (first c.args.tokens.now (c.args.at + 1) (expecting 1 want_type) (λ K. want_expr ∷ K) c.args.group c.in-err-part.field-0.0 c.in-err-part.ensures.is);
+          step c.args.tokens.now c.args.at (λ K. want_expr ∷ K) (λ K. parts c.args.at K Exit) c.args.group c.args.group (Err c.in_err-part-in-Exit.field-0.0)
+          (told c.args.tokens.now c.args.at (λ K. want_expr ∷ K) (λ h K. parts c.args.at K h) c.in_ok-head.field-0 Exit c.in_ok-head.ensures.1 c.in-Exit.is) (λ K h. h)
+          (first c.args.tokens.now (c.args.at + 1) (expecting 1 want_type) (λ K. want_expr ∷ K) c.args.group c.in_err-part-in-Exit.field-0.0 c.in_err-part-in-Exit.ensures.is);
     })
 
 pub expressions-returns : goal.expressions-returns
@@ -135,15 +135,15 @@ expressions-returns t c =
       ends = search rules;
       is =
           first_of c.args.tokens.now c.args.at c.args.n want_expr c.args.group c.expressions.result c.if-n-eq0.false
-          (both c.args.tokens.now c.args.at c.in-ok-next.next (λ K. want_expr ∷ K) (expecting (c.args.n - 1) want_expr) c.args.group c.args.group c.expressions.result c.in-ok-next.ensures.is (λ K h. h) c.expressions.ensures.is);
+          (both c.args.tokens.now c.args.at c.in_ok-next.next (λ K. want_expr ∷ K) (expecting (c.args.n - 1) want_expr) c.args.group c.args.group c.expressions.result c.in_ok-next.ensures.is (λ K h. h) c.expressions.ensures.is);
     }
 
-pub expressions-returns-in-err-next : goal.expressions-returns-in-err-next
-expressions-returns-in-err-next t c =
-    let p = err_from_is_err_and c.from-residual.result c.from-residual.ensures.1 in
+pub expressions-returns-in_err-next : goal.expressions-returns-in_err-next
+expressions-returns-in_err-next t c =
+    let p = err_from_is_err_and c.from_residual.result c.from_residual.ensures.1 in
     rw (p.1, p.2) (record {
       ends = tt;
       is =
-          first_of c.args.tokens.now c.args.at c.args.n want_expr c.args.group (Err c.in-err-next.field-0.0) c.if-n-eq0.false
-          (first c.args.tokens.now c.args.at (λ K. want_expr ∷ K) (expecting (c.args.n - 1) want_expr) c.args.group c.in-err-next.field-0.0 c.in-err-next.ensures.is);
+          first_of c.args.tokens.now c.args.at c.args.n want_expr c.args.group (Err c.in_err-next.field-0.0) c.if-n-eq0.false
+          (first c.args.tokens.now c.args.at (λ K. want_expr ∷ K) (expecting (c.args.n - 1) want_expr) c.args.group c.in_err-next.field-0.0 c.in_err-next.ensures.is);
     })

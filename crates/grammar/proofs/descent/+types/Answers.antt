@@ -11,15 +11,15 @@ returns t c =
       ends = search rules;
       is =
           first_of c.args.tokens.now c.args.at c.args.n want_type c.args.group c.types.result c.if-n-eq0.false
-          (both c.args.tokens.now c.args.at (c.args.at + 1) (λ K. want_type ∷ K) (expecting (c.args.n - 1) want_type) c.args.group c.args.group c.types.result (token c.args.tokens.now c.args.at (λ K. want_type ∷ K) c.args.group c.in-ok-ty.ensures.1) (λ K h. h) c.types.ensures.is);
+          (both c.args.tokens.now c.args.at (c.args.at + 1) (λ K. want_type ∷ K) (expecting (c.args.n - 1) want_type) c.args.group c.args.group c.types.result (token c.args.tokens.now c.args.at (λ K. want_type ∷ K) c.args.group c.in_ok-ty.ensures.1) (λ K h. h) c.types.ensures.is);
     }
 
-pub returns-in-err-ty : goal.returns-in-err-ty
-returns-in-err-ty t c =
-    let p = err_from_is_err_and c.from-residual.result c.from-residual.ensures.1 in
+pub returns-in_err-ty : goal.returns-in_err-ty
+returns-in_err-ty t c =
+    let p = err_from_is_err_and c.from_residual.result c.from_residual.ensures.1 in
     rw (p.1, p.2) (record {
       ends = tt;
       is =
-          first_of c.args.tokens.now c.args.at c.args.n want_type c.args.group (Err c.in-err-ty.field-0.0) c.if-n-eq0.false
-          (first c.args.tokens.now c.args.at (λ K. want_type ∷ K) (expecting (c.args.n - 1) want_type) c.args.group c.in-err-ty.field-0.0 (stop c.args.tokens.now c.args.at want_type c.args.group c.in-err-ty.field-0.0 c.in-err-ty.ensures));
+          first_of c.args.tokens.now c.args.at c.args.n want_type c.args.group (Err c.in_err-ty.field-0.0) c.if-n-eq0.false
+          (first c.args.tokens.now c.args.at (λ K. want_type ∷ K) (expecting (c.args.n - 1) want_type) c.args.group c.in_err-ty.field-0.0 (stop c.args.tokens.now c.args.at want_type c.args.group c.in_err-ty.field-0.0 c.in_err-ty.ensures));
     })

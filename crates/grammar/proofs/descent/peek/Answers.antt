@@ -13,5 +13,5 @@ got ws p (Some x) i = (i.3.0, there ws p x.now i.3.0 i.1)
 
 pub returns : goal.returns
 returns c =
-    let h = got c.args.tokens.now c.args.at c.get.result c.get.ensures.finds in
+    let h = got c.args.tokens.now c.args.at c.get.result c.get.ensures.lookup in
     rw c.copied.ensures (record { within = h.0; is = h.1 })

@@ -5,8 +5,8 @@ use Rattle.rules.proofs.Backs.{stands}
 use Rattle.rules.proofs.Declares.{no_case, lost_case, case_there}
 use Rattle.rules.proofs.declared.case_types.Goals as goal
 
-pub overflow-add-place : goal.overflow-add-place
-overflow-add-place c =
+pub overflow_add-place : goal.overflow_add-place
+overflow_add-place c =
     let h = stands (tokens_in c.args.card.now) c.in-Some.place field_count _ refl c.in-Some-fields-at.ensures in
     let l = c.args.card.now.few in
     search rules

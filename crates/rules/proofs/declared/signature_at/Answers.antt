@@ -5,31 +5,31 @@ use Rattle.rules.proofs.Backs.{stands}
 use Rattle.rules.proofs.Declares.{declared}
 use Rattle.rules.proofs.declared.signature_at.Goals as goal
 
-pub overflow-add-place : goal.overflow-add-place
-overflow-add-place c =
-    let h = stands (tokens_in c.args.card.now) c.args.place parameter_count _ refl c.in-ok-n.ensures in
+pub overflow_add-place : goal.overflow_add-place
+overflow_add-place c =
+    let h = stands (tokens_in c.args.card.now) c.args.place parameter_count _ refl c.in_ok-n.ensures in
     let l = c.args.card.now.few in
     search rules
 
-pub overflow-add-place-2 : goal.overflow-add-place-2
-overflow-add-place-2 c =
-    let h = stands (tokens_in c.args.card.now) c.args.place parameter_count _ refl c.in-ok-n.ensures in
+pub overflow_add-place-2 : goal.overflow_add-place-2
+overflow_add-place-2 c =
+    let h = stands (tokens_in c.args.card.now) c.args.place parameter_count _ refl c.in_ok-n.ensures in
     let l = c.args.card.now.few in
     search rules
 
-pub overflow-add-place-3 : goal.overflow-add-place-3
-overflow-add-place-3 c =
-    let h = stands (tokens_in c.args.card.now) c.args.place parameter_count _ refl c.in-ok-n.ensures in
+pub overflow_add-place-3 : goal.overflow_add-place-3
+overflow_add-place-3 c =
+    let h = stands (tokens_in c.args.card.now) c.args.place parameter_count _ refl c.in_ok-n.ensures in
     let l = c.args.card.now.few in
     search rules
 
 pub more-types-parameters-requires : goal.more-types-parameters-requires
 more-types-parameters-requires c =
-    let h = stands (tokens_in c.args.card.now) c.args.place parameter_count _ refl c.in-ok-n.ensures in
+    let h = stands (tokens_in c.args.card.now) c.args.place parameter_count _ refl c.in_ok-n.ensures in
     let l = c.args.card.now.few in
     search rules
 
 pub returns : goal.returns
 returns c =
-    declared (tokens_in c.args.card.now) c.args.place c.in-ok-n.n c.new.result c.more-types-parameters.result c.in-ok-result.result c.in-ok-n.ensures c.in-ok-result.ensures
+    declared (tokens_in c.args.card.now) c.args.place c.in_ok-n.n c.new.result c.more-types-parameters.result c.in_ok-result.result c.in_ok-n.ensures c.in_ok-result.ensures
     c.new.ensures c.more-types-parameters.ensures

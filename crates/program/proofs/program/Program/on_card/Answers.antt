@@ -15,20 +15,20 @@ returns-then-is-err c = none_spelt c.args.bytes.now c.args.len c.args.tokens (om
 spells : (c : goal.Else-is-err) → Spells c.args.bytes.now (take c.args.len c.args.tokens)
 spells c = one_spelt c.args.bytes.now c.args.len c.args.tokens (omega arith) (omega arith) c.placed.result c.if-is-err.ensures.value c.placed.ensures
 
-pub invariant-of-of : goal.invariant-of-of
-invariant-of-of c =
+pub invariant_of-of : goal.invariant_of-of
+invariant_of-of c =
     let same = front c.args.len c.args.tokens in
     let l = length-take-le c.args.len c.args.tokens (omega arith) in
     let few : length (take c.args.len c.args.tokens) ≤ 512 = omega arith in
     (subst (λ ws. length ws ≤ 512) (sym same) few, (∣ subst AllLimited (sym same) c.requires.limited ∣₁, tt))
 
-pub invariant-of-result : goal.invariant-of-result
-invariant-of-result c =
+pub invariant_of-result : goal.invariant_of-result
+invariant_of-result c =
     let ws = take c.args.len c.args.tokens in
     let same : layout.tokens_in c.of.result ≡ ws = c.of.ensures ∙ front c.args.len c.args.tokens in
     let ended = subst (λ vs. Ends vs c.into-tables.result.1) same c.into-tables.ensures.ends in
     let defined = c.into-tables.ensures.functions ∙ ap (functions_in 0) same in
-    let spelt = subst (λ t. Spells t ws) (sym c.copied.ensures.start) (spells (goal.at.invariant-of-result c).Else-is-err) in
+    let spelt = subst (λ t. Spells t ws) (sym c.copied.ensures.start) (spells (goal.at.invariant_of-result c).Else-is-err) in
     (c.requires.tokens.0, (c.requires.tokens.2, (c.into-tables.ensures.whole, (c.copied.ensures.whole, (c.requires.bytes, (ended, (∣ c.requires.limited ∣₁, (defined, (∣ spelt ∣₁, tt)))))))))
 
 pub returns : goal.returns

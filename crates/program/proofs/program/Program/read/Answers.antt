@@ -10,12 +10,12 @@ pub on-card-requires : goal.on-card-requires
 on-card-requires c =
     let counts = c.in-Ok.ensures.whole in
     record {
-      tokens = (c.in-ok-tokens.ensures.whole, counts.1, counts.2);
-      limited = all_limited (records_from c.args.image.now 9 c.in-Ok.header.records) _ c.in-ok-tokens.ensures.tokens;
+      tokens = (c.in_ok-tokens.ensures.whole, counts.1, counts.2);
+      limited = all_limited (records_from c.args.image.now 9 c.in-Ok.header.records) _ c.in_ok-tokens.ensures.tokens;
       bytes = simp (length-take, length-drop) (omega arith);
     }
 
 pub returns : goal.returns
 returns c =
     c.on_card.ensures
-    ∙ as_read c.args.image.now c.in-Ok.header.records _ c.in-Ok.ensures.verdict c.in-Ok.ensures.counts.0 c.in-ok-tokens.ensures.tokens
+    ∙ as_read c.args.image.now c.in-Ok.header.records _ c.in-Ok.ensures.verdict c.in-Ok.ensures.counts.0 c.in_ok-tokens.ensures.tokens
