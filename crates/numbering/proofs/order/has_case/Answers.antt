@@ -6,4 +6,4 @@ use Rattle.numbering.proofs.Declared.{case_at}
 use Rattle.numbering.proofs.order.has_case.Goals as goal
 
 pub returns : goal.returns
-returns c t C read = c.is-some.ensures ∙ ap is_some c.case.ensures ∙ matched_there (case_at t (tokens_in c.args.layout.now) C read c.args.k c.args.c)
+returns c t C read = c.is_some.ensures ∙ ap is_some c.case.ensures ∙ matched_there (case_at t (tokens_in c.args.layout.now) C read c.args.k c.args.c)

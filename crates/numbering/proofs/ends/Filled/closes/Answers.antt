@@ -8,7 +8,7 @@ use Rattle.numbering.proofs.ends.Filled.closes.Goals as goal
 
 pub returns-then-q-self : goal.returns-then-q-self
 returns-then-q-self c =
-    record { is = c.is_close_lem.ensures ∙ ap is_close (sym (at_in c.args.self.tokens.list.now c.args.q _ c.if-q-self.true)); within = λ e. c.if-q-self.true }
+    record { is = c.is_close.ensures ∙ ap is_close (sym (at_in c.args.self.tokens.list.now c.args.q _ c.if-q-self.true)); within = λ e. c.if-q-self.true }
 
 pub returns-else-q-self : goal.returns-else-q-self
 returns-else-q-self c =
