@@ -4,17 +4,17 @@ use Rattle.rules.specs.Standing.{OnceAt}
 use Rattle.rules.proofs.Walks.{once_none, once_more, once_not}
 use Rattle.rules.proofs.arms.all_once.Goals as goal
 
-pub returns-then-arms-of-ne1 : goal.returns-then-arms-of-ne1
-returns-then-arms-of-ne1 c =
+pub returns-then-arms_of-ne1 : goal.returns-then-arms_of-ne1
+returns-then-arms_of-ne1 c =
     let e : suc (c.loop-case.case - 1) ≡ c.loop-case.case = omega arith in
     c.loop-case.invariant false (subst (λ k. OnceAt (tokens_in c.args.card.now) k c.args.arm false) e
-    (once_not (tokens_in c.args.card.now) (c.loop-case.case - 1) c.args.arm c.arms-of.result c.arms-of.ensures.is c.if-arms-of-ne1.true))
+    (once_not (tokens_in c.args.card.now) (c.loop-case.case - 1) c.args.arm c.arms_of.result c.arms_of.ensures.is c.if-arms_of-ne1.true))
 
 pub loop-case-preserved : goal.loop-case-preserved
 loop-case-preserved c b h =
     let e : suc (c.loop-case.case - 1) ≡ c.loop-case.case = omega arith in
     c.loop-case.invariant b (subst (λ k. OnceAt (tokens_in c.args.card.now) k c.args.arm b) e
-    (once_more (tokens_in c.args.card.now) (c.loop-case.case - 1) c.args.arm c.arms-of.result b c.arms-of.ensures.is c.if-arms-of-ne1.false h))
+    (once_more (tokens_in c.args.card.now) (c.loop-case.case - 1) c.args.arm c.arms_of.result b c.arms_of.ensures.is c.if-arms_of-ne1.false h))
 
 pub loop-case-init : goal.loop-case-init
 loop-case-init c = λ b h. h

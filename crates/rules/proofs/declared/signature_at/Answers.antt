@@ -23,13 +23,13 @@ overflow_add-place-3 c =
     let l = c.args.card.now.few in
     search rules
 
-pub more-types-parameters-requires : goal.more-types-parameters-requires
-more-types-parameters-requires c =
+pub more_types-parameters-requires : goal.more_types-parameters-requires
+more_types-parameters-requires c =
     let h = stands (tokens_in c.args.card.now) c.args.place parameter_count _ refl c.in_ok-n.ensures in
     let l = c.args.card.now.few in
     search rules
 
 pub returns : goal.returns
 returns c =
-    declared (tokens_in c.args.card.now) c.args.place c.in_ok-n.n c.new.result c.more-types-parameters.result c.in_ok-result.result c.in_ok-n.ensures c.in_ok-result.ensures
-    c.new.ensures c.more-types-parameters.ensures
+    declared (tokens_in c.args.card.now) c.args.place c.in_ok-n.n c.new.result c.more_types-parameters.result c.in_ok-result.result c.in_ok-n.ensures c.in_ok-result.ensures
+    c.new.ensures c.more_types-parameters.ensures
