@@ -6,7 +6,7 @@ use Rattle.typing.proofs.functions.typed.Goals as goal
 
 pub returns-in_err-function : goal.returns-in_err-function
 returns-in_err-function c =
-    let p = err_from_is_err_and c.from-residual.result c.from-residual.ensures.1 in
+    let p = err_from_is_err_and c.from_residual.result c.from_residual.ensures.1 in
     rw (p.1, p.2)
     (left_fault (tokens_in c.args.card.now) c.loop-number.number _ (omega (arith, c.functions-number-end.ensures)) c.loop-number.invariant.0 c.in_err-function.ensures)
 

@@ -80,27 +80,27 @@ expression-returns-in_default t c =
       is = no_head (tokens_in c.args.card.now) (Seen c.args.bound c.args.scope.now) c.args.at (Err c.fault.result) c.in_default.ensures;
     }
 
-pub expression-returns-in_err-ty : goal.expression-returns-in_err-ty
-expression-returns-in_err-ty t c =
-    let p = err_from_is_err_and c.from-residual.result c.from-residual.ensures.1 in
+pub expression-returns-in_err-ty-in-Leaf : goal.expression-returns-in_err-ty-in-Leaf
+expression-returns-in_err-ty-in-Leaf t c =
+    let p = err_from_is_err_and c.from_residual.result c.from_residual.ensures.1 in
     rw (p.1, p.2) (record {
       onward = tt;
       kept = refl;
-      is = leaf_break (tokens_in c.args.card.now) c.args.bound c.args.at c.args.scope.now c.in-Some.head c.in-Leaf.leaf _ c.in-Some.ensures c.in-Leaf.ensures c.in_err-ty.ensures;
+      is = leaf_break (tokens_in c.args.card.now) c.args.bound c.args.at c.args.scope.now c.in-Some.head c.in-Leaf.leaf _ c.in-Some.ensures c.in-Leaf.ensures c.in_err-ty-in-Leaf.ensures;
     })
 
-pub expression-returns-in_ok-ty : goal.expression-returns-in_ok-ty
-expression-returns-in_ok-ty t c =
+pub expression-returns-in_ok-ty-in-Leaf : goal.expression-returns-in_ok-ty-in-Leaf
+expression-returns-in_ok-ty-in-Leaf t c =
     let h = stands (tokens_in c.args.card.now) c.args.at head_of _ refl c.in-Some.ensures in
     record {
       onward = (omega arith, omega arith);
       kept = refl;
-      is = leaf_turn (tokens_in c.args.card.now) c.args.bound c.args.at c.args.scope.now c.in-Some.head c.in-Leaf.leaf c.in_ok-ty.ty c.in-Some.ensures c.in-Leaf.ensures c.in_ok-ty.ensures;
+      is = leaf_turn (tokens_in c.args.card.now) c.args.bound c.args.at c.args.scope.now c.in-Some.head c.in-Leaf.leaf c.in_ok-ty-in-Leaf.ty c.in-Some.ensures c.in-Leaf.ensures c.in_ok-ty-in-Leaf.ensures;
     }
 
 pub val-returns-in_err-ty : goal.val-returns-in_err-ty
 val-returns-in_err-ty t c =
-    let p = err_from_is_err_and c.from-residual.result c.from-residual.ensures.1 in
+    let p = err_from_is_err_and c.from_residual.result c.from_residual.ensures.1 in
     rw (p.1, p.2) (record {
       onward = tt;
       kept = c.in_err-ty.ensures.kept;
@@ -128,7 +128,7 @@ exit-returns-in_default t c =
 
 pub exit-returns-in_err-part : goal.exit-returns-in_err-part
 exit-returns-in_err-part t c =
-    let p = err_from_is_err_and c.from-residual.result c.from-residual.ensures.1 in
+    let p = err_from_is_err_and c.from_residual.result c.from_residual.ensures.1 in
     rw (p.1, p.2) (record {
       onward = tt;
       kept = c.in_err-part.ensures.kept;
@@ -163,7 +163,7 @@ parts-returns-then-n-eq0 t c =
 
 pub parts-returns-in_err-ty : goal.parts-returns-in_err-ty
 parts-returns-in_err-ty t c =
-    let p = err_from_is_err_and c.from-residual.result c.from-residual.ensures.1 in
+    let p = err_from_is_err_and c.from_residual.result c.from_residual.ensures.1 in
     rw (p.1, p.2) (record {
       onward = tt;
       kept = c.in_err-ty.ensures.kept;
@@ -187,7 +187,7 @@ parts-returns t c =
 
 pub plain-returns-in_err-types : goal.plain-returns-in_err-types
 plain-returns-in_err-types t c =
-    let p = err_from_is_err_and c.from-residual.result c.from-residual.ensures.1 in
+    let p = err_from_is_err_and c.from_residual.result c.from_residual.ensures.1 in
     rw (p.1, p.2) (record {
       onward = tt;
       kept = c.in_err-types.ensures.kept;
@@ -196,7 +196,7 @@ plain-returns-in_err-types t c =
 
 pub plain-returns-in_err-ty : goal.plain-returns-in_err-ty
 plain-returns-in_err-ty t c =
-    let p = err_from_is_err_and c.from-residual-in_err-ty.result c.from-residual-in_err-ty.ensures.1 in
+    let p = err_from_is_err_and c.from_residual-in_err-ty.result c.from_residual-in_err-ty.ensures.1 in
     rw (p.1, p.2) (record {
       onward = tt;
       kept = c.in_ok-types.ensures.kept;
@@ -214,7 +214,7 @@ plain-returns t c =
 
 pub choice-returns-in_err-ty : goal.choice-returns-in_err-ty
 choice-returns-in_err-ty t c =
-    let p = err_from_is_err_and c.from-residual.result c.from-residual.ensures.1 in
+    let p = err_from_is_err_and c.from_residual.result c.from_residual.ensures.1 in
     rw (p.1, p.2) (record {
       onward = tt;
       kept = c.in_err-ty.ensures.kept;
@@ -237,30 +237,30 @@ choice-returns-in_default-cases t c =
       is = match_no_cases (tokens_in c.args.card.now) c.args.bound c.args.at c.in_ok-ty.first c.in-Some.of c.args.scope.now c.in_ok-ty.ty _ c.requires.here c.in_ok-ty.ensures.is c.in-Some.ensures c.in_default-cases.ensures c.fault-in_default-cases.ensures;
     }
 
-pub choice-returns-then-not-arms-fit : goal.choice-returns-then-not-arms-fit
-choice-returns-then-not-arms-fit t c =
+pub choice-returns-then-not-arms_fit : goal.choice-returns-then-not-arms_fit
+choice-returns-then-not-arms_fit t c =
     record {
       onward = tt;
       kept = c.in_ok-ty.ensures.kept;
-      is = match_misarmed (tokens_in c.args.card.now) c.args.bound c.args.at c.in_ok-ty.first c.in-Some.of c.in-Some-cases.cases c.args.scope.now c.in_ok-ty.ty _ c.requires.here c.in_ok-ty.ensures.is c.in-Some.ensures c.in-Some-cases.ensures c.if-not-arms-fit.ensures c.fault-then-not-arms-fit.ensures;
+      is = match_misarmed (tokens_in c.args.card.now) c.args.bound c.args.at c.in_ok-ty.first c.in-Some.of c.in-Some-cases.cases c.args.scope.now c.in_ok-ty.ty _ c.requires.here c.in_ok-ty.ensures.is c.in-Some.ensures c.in-Some-cases.ensures c.if-not-arms_fit.ensures c.fault-then-not-arms_fit.ensures;
     }
 
 pub choice-returns-in_err-ty-2 : goal.choice-returns-in_err-ty-2
 choice-returns-in_err-ty-2 t c =
-    let p = err_from_is_err_and c.from-residual-in_err-ty-2.result c.from-residual-in_err-ty-2.ensures.1 in
+    let p = err_from_is_err_and c.from_residual-in_err-ty-2.result c.from_residual-in_err-ty-2.ensures.1 in
     rw (p.1, p.2) (record {
       onward = tt;
       kept = c.in_err-ty-2.ensures.kept ∙ c.in_ok-ty.ensures.kept;
-      is = match_first_break (tokens_in c.args.card.now) c.args.bound c.args.at c.in_ok-ty.first c.in-Some.of c.in-Some-cases.cases c.args.scope.now c.expression.new.scope c.in_ok-ty.ty _ c.requires.here c.in_ok-ty.ensures.is c.in-Some.ensures c.in-Some-cases.ensures c.if-not-arms-fit.ensures c.in_ok-ty.ensures.kept c.in_err-ty-2.ensures.is;
+      is = match_first_break (tokens_in c.args.card.now) c.args.bound c.args.at c.in_ok-ty.first c.in-Some.of c.in-Some-cases.cases c.args.scope.now c.expression.new.scope c.in_ok-ty.ty _ c.requires.here c.in_ok-ty.ensures.is c.in-Some.ensures c.in-Some-cases.ensures c.if-not-arms_fit.ensures c.in_ok-ty.ensures.kept c.in_err-ty-2.ensures.is;
     })
 
 pub choice-returns-in_err-alike : goal.choice-returns-in_err-alike
 choice-returns-in_err-alike t c =
-    let p = err_from_is_err_and c.from-residual-in_err-alike.result c.from-residual-in_err-alike.ensures.1 in
+    let p = err_from_is_err_and c.from_residual-in_err-alike.result c.from_residual-in_err-alike.ensures.1 in
     rw (p.1, p.2) (record {
       onward = tt;
       kept = c.in_err-alike.ensures.kept ∙ c.in_ok-ty-2.ensures.kept ∙ c.in_ok-ty.ensures.kept;
-      is = match_other_break (tokens_in c.args.card.now) c.args.bound c.args.at c.in_ok-ty.first c.in-Some.of c.in-Some-cases.cases c.in_ok-ty-2.next c.args.scope.now c.expression.new.scope c.arm.new.scope c.in_ok-ty.ty c.in_ok-ty-2.ty _ c.requires.here c.in_ok-ty.ensures.is c.in-Some.ensures c.in-Some-cases.ensures c.if-not-arms-fit.ensures c.in_ok-ty.ensures.kept c.in_ok-ty-2.ensures.is c.in_ok-ty-2.ensures.kept c.in_err-alike.ensures.is;
+      is = match_other_break (tokens_in c.args.card.now) c.args.bound c.args.at c.in_ok-ty.first c.in-Some.of c.in-Some-cases.cases c.in_ok-ty-2.next c.args.scope.now c.expression.new.scope c.arm.new.scope c.in_ok-ty.ty c.in_ok-ty-2.ty _ c.requires.here c.in_ok-ty.ensures.is c.in-Some.ensures c.in-Some-cases.ensures c.if-not-arms_fit.ensures c.in_ok-ty.ensures.kept c.in_ok-ty-2.ensures.is c.in_ok-ty-2.ensures.kept c.in_err-alike.ensures.is;
     })
 
 pub choice-returns-then-alike : goal.choice-returns-then-alike
@@ -271,7 +271,7 @@ choice-returns-then-alike t c =
     record {
       onward = (omega (arith, f.onward, g.onward, k.onward), k.onward.1);
       kept = c.in_ok-alike.ensures.kept ∙ c.in_ok-ty-2.ensures.kept ∙ c.in_ok-ty.ensures.kept;
-      is = match_turn (tokens_in c.args.card.now) c.args.bound c.args.at c.in_ok-ty.first c.in-Some.of c.in-Some-cases.cases c.in_ok-ty-2.next c.in_ok-alike.end c.args.scope.now c.expression.new.scope c.arm.new.scope c.in_ok-ty.ty c.in_ok-ty-2.ty c.requires.here c.in_ok-ty.ensures.is c.in-Some.ensures c.in-Some-cases.ensures c.if-not-arms-fit.ensures c.in_ok-ty.ensures.kept c.in_ok-ty-2.ensures.is c.in_ok-ty-2.ensures.kept c.in_ok-alike.alike c.in_ok-alike.ensures.is c.if-alike.true;
+      is = match_turn (tokens_in c.args.card.now) c.args.bound c.args.at c.in_ok-ty.first c.in-Some.of c.in-Some-cases.cases c.in_ok-ty-2.next c.in_ok-alike.end c.args.scope.now c.expression.new.scope c.arm.new.scope c.in_ok-ty.ty c.in_ok-ty-2.ty c.requires.here c.in_ok-ty.ensures.is c.in-Some.ensures c.in-Some-cases.ensures c.if-not-arms_fit.ensures c.in_ok-ty.ensures.kept c.in_ok-ty-2.ensures.is c.in_ok-ty-2.ensures.kept c.in_ok-alike.alike c.in_ok-alike.ensures.is c.if-alike.true;
     }
 
 pub choice-returns-else-alike : goal.choice-returns-else-alike
@@ -279,7 +279,7 @@ choice-returns-else-alike t c =
     record {
       onward = tt;
       kept = c.in_ok-alike.ensures.kept ∙ c.in_ok-ty-2.ensures.kept ∙ c.in_ok-ty.ensures.kept;
-      is = match_differ (tokens_in c.args.card.now) c.args.bound c.args.at c.in_ok-ty.first c.in-Some.of c.in-Some-cases.cases c.in_ok-ty-2.next c.in_ok-alike.end c.args.scope.now c.expression.new.scope c.arm.new.scope c.in_ok-ty.ty c.in_ok-ty-2.ty _ c.requires.here c.in_ok-ty.ensures.is c.in-Some.ensures c.in-Some-cases.ensures c.if-not-arms-fit.ensures c.in_ok-ty.ensures.kept c.in_ok-ty-2.ensures.is c.in_ok-ty-2.ensures.kept c.in_ok-alike.alike c.in_ok-alike.ensures.is c.if-alike.false c.fault-else-alike.ensures;
+      is = match_differ (tokens_in c.args.card.now) c.args.bound c.args.at c.in_ok-ty.first c.in-Some.of c.in-Some-cases.cases c.in_ok-ty-2.next c.in_ok-alike.end c.args.scope.now c.expression.new.scope c.arm.new.scope c.in_ok-ty.ty c.in_ok-ty-2.ty _ c.requires.here c.in_ok-ty.ensures.is c.in-Some.ensures c.in-Some-cases.ensures c.if-not-arms_fit.ensures c.in_ok-ty.ensures.kept c.in_ok-ty-2.ensures.is c.in_ok-ty-2.ensures.kept c.in_ok-alike.alike c.in_ok-alike.ensures.is c.if-alike.false c.fault-else-alike.ensures;
     }
 
 pub arm-returns-in_default : goal.arm-returns-in_default
@@ -309,45 +309,45 @@ arm-returns t c =
     let h = at_below (tokens_in c.args.card.now) c.args.at _ (arm_is _ _ c.in-Some.ensures) in
     let l = c.args.card.now.few in
     let n : length c.slice.result.now ≤ 4 = rw c.slice.ensures (few_types c.fields-types.result) in
-    let full : c.bind-all.result ≡ true = bound_all c.args.bound (length c.args.scope.now) (length c.slice.result.now) c.bind-all.result c.bind-all.ensures.told n (omega arith) in
+    let full : c.bind_all.result ≡ true = bound_all c.args.bound (length c.args.scope.now) (length c.slice.result.now) c.bind_all.result c.bind_all.ensures.told n (omega arith) in
     let m : c.len.result ≡ length (types_of c.fields-types.result) = c.len.ensures in
     record {
       onward = later c.args.at (c.args.at + 1) _ c.expression.result (omega arith) c.expression.ensures.onward;
-      kept = fewer c.args.bound c.len.result c.expression.new.scope c.bind-all.new.entries c.expression.ensures.kept ∙ c.bind-all.ensures.below;
-      is = arm_turn (tokens_in c.args.card.now) c.args.bound c.args.at c.args.of _ _ _ c.args.scope.now c.bind-all.new.entries c.fields-types.result c.slice.result.now c.expression.result (arm_is _ _ c.in-Some.ensures) c.fields-types.ensures c.slice.ensures (c.bind-all.ensures.scope full) (subst (λ k. TypedAt (tokens_in c.args.card.now) (Seen (c.args.bound + k) c.bind-all.new.entries) (c.args.at + 1) c.expression.result) m c.expression.ensures.is);
+      kept = fewer c.args.bound c.len.result c.expression.new.scope c.bind_all.new.entries c.expression.ensures.kept ∙ c.bind_all.ensures.below;
+      is = arm_turn (tokens_in c.args.card.now) c.args.bound c.args.at c.args.of _ _ _ c.args.scope.now c.bind_all.new.entries c.fields-types.result c.slice.result.now c.expression.result (arm_is _ _ c.in-Some.ensures) c.fields-types.ensures c.slice.ensures (c.bind_all.ensures.scope full) (subst (λ k. TypedAt (tokens_in c.args.card.now) (Seen (c.args.bound + k) c.bind_all.new.entries) (c.args.at + 1) c.expression.result) m c.expression.ensures.is);
     }
 
 pub arms-overflow_add-result : goal.arms-overflow_add-result
 arms-overflow_add-result t c =
-    let h = closed_below (tokens_in c.args.card.now) c.args.at c.if-closes-at.ensures in
+    let h = closed_below (tokens_in c.args.card.now) c.args.at c.if-closes_at.ensures in
     let l = c.args.card.now.few in
     search rules
 
-pub arms-returns-then-closes-at : goal.arms-returns-then-closes-at
-arms-returns-then-closes-at t c =
-    let h = closed_below (tokens_in c.args.card.now) c.args.at c.if-closes-at.ensures in
+pub arms-returns-then-closes_at : goal.arms-returns-then-closes_at
+arms-returns-then-closes_at t c =
+    let h = closed_below (tokens_in c.args.card.now) c.args.at c.if-closes_at.ensures in
     record {
       onward = (omega arith, omega arith);
       kept = refl;
-      is = arms_done (tokens_in c.args.card.now) c.args.bound c.args.at c.args.of c.args.scope.now c.args.wanted c.if-closes-at.ensures;
+      is = arms_done (tokens_in c.args.card.now) c.args.bound c.args.at c.args.of c.args.scope.now c.args.wanted c.if-closes_at.ensures;
     }
 
 pub arms-returns-in_err-ty : goal.arms-returns-in_err-ty
 arms-returns-in_err-ty t c =
-    let p = err_from_is_err_and c.from-residual.result c.from-residual.ensures.1 in
+    let p = err_from_is_err_and c.from_residual.result c.from_residual.ensures.1 in
     rw (p.1, p.2) (record {
       onward = tt;
       kept = c.in_err-ty.ensures.kept;
-      is = arms_break (tokens_in c.args.card.now) c.args.bound c.args.at c.args.of c.args.scope.now c.args.wanted _ c.if-closes-at.ensures c.in_err-ty.ensures.is;
+      is = arms_break (tokens_in c.args.card.now) c.args.bound c.args.at c.args.of c.args.scope.now c.args.wanted _ c.if-closes_at.ensures c.in_err-ty.ensures.is;
     })
 
 pub arms-returns-in_err-others : goal.arms-returns-in_err-others
 arms-returns-in_err-others t c =
-    let p = err_from_is_err_and c.from-residual-in_err-others.result c.from-residual-in_err-others.ensures.1 in
+    let p = err_from_is_err_and c.from_residual-in_err-others.result c.from_residual-in_err-others.ensures.1 in
     rw (p.1, p.2) (record {
       onward = tt;
       kept = c.in_err-others.ensures.kept ∙ c.in_ok-ty.ensures.kept;
-      is = arms_other_break (tokens_in c.args.card.now) c.args.bound c.args.at c.args.of c.in_ok-ty.next c.args.scope.now c.arm.new.scope c.args.wanted c.in_ok-ty.ty _ c.if-closes-at.ensures c.in_ok-ty.ensures.is c.in_ok-ty.ensures.kept c.in_err-others.ensures.is;
+      is = arms_other_break (tokens_in c.args.card.now) c.args.bound c.args.at c.args.of c.in_ok-ty.next c.args.scope.now c.arm.new.scope c.args.wanted c.in_ok-ty.ty _ c.if-closes_at.ensures c.in_ok-ty.ensures.is c.in_ok-ty.ensures.kept c.in_err-others.ensures.is;
     })
 
 pub arms-returns-then-same : goal.arms-returns-then-same
@@ -357,7 +357,7 @@ arms-returns-then-same t c =
     record {
       onward = (omega (arith, f.onward, g.onward), g.onward.1);
       kept = g.kept ∙ f.kept;
-      is = arms_turn (tokens_in c.args.card.now) c.args.bound c.args.at c.args.of c.in_ok-ty.next c.in_ok-others.end c.args.scope.now c.arm.new.scope c.args.wanted c.in_ok-ty.ty c.in_ok-others.others c.same.result _ c.if-closes-at.ensures f.is f.kept g.is c.same.ensures (same_so _ _ c.if-same.true);
+      is = arms_turn (tokens_in c.args.card.now) c.args.bound c.args.at c.args.of c.in_ok-ty.next c.in_ok-others.end c.args.scope.now c.arm.new.scope c.args.wanted c.in_ok-ty.ty c.in_ok-others.others c.same.result _ c.if-closes_at.ensures f.is f.kept g.is c.same.ensures (same_so _ _ c.if-same.true);
     }
 
 pub arms-returns-else-same : goal.arms-returns-else-same
@@ -367,5 +367,5 @@ arms-returns-else-same t c =
     record {
       onward = (omega (arith, f.onward, g.onward), g.onward.1);
       kept = g.kept ∙ f.kept;
-      is = arms_turn (tokens_in c.args.card.now) c.args.bound c.args.at c.args.of c.in_ok-ty.next c.in_ok-others.end c.args.scope.now c.arm.new.scope c.args.wanted c.in_ok-ty.ty c.in_ok-others.others c.same.result _ c.if-closes-at.ensures f.is f.kept g.is c.same.ensures (not_same _ _ c.if-same.false);
+      is = arms_turn (tokens_in c.args.card.now) c.args.bound c.args.at c.args.of c.in_ok-ty.next c.in_ok-others.end c.args.scope.now c.arm.new.scope c.args.wanted c.in_ok-ty.ty c.in_ok-others.others c.same.result _ c.if-closes_at.ensures f.is f.kept g.is c.same.ensures (not_same _ _ c.if-same.false);
     }
