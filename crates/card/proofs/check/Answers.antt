@@ -10,8 +10,8 @@ use Rattle.card.proofs.check.Goals as goal
 pub returns-in_err-header : goal.returns-in_err-header
 returns-in_err-header c =
     let image = c.args.image.now in
-    let r = c.from-residual.result in
-    let p = err_from_is_err_and r c.from-residual.ensures.1 in
+    let r = c.from_residual.result in
+    let p = err_from_is_err_and r c.from_residual.ensures.1 in
     let tells : told r ≡ verdict image = ap told (p.1 ∙ ap Err p.2) ∙ sym (ap (by_header image) c.in_err-header.ensures.verdict) in
     record { verdict = tells; accepts = accepts image r tells; one = one image; refuses = refuses image r tells; first = first image r tells; layer = layered r; settled = settled image }
 
