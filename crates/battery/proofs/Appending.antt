@@ -1,9 +1,9 @@
 -- A store that appends is lawful, and every typed run ends.
 use Rattle.std.proofs.Common.{◌≡◌, ℕ, zero, suc, Bool, true, false, cond, ltb, List, [], ◌∷◌, ◌++◌, length, Some, None, Option, refl, ap}
 use Rattle.battery.specs.Tree.{at, bind, ◌▸◌}
-use Rattle.battery.specs.Cell.{Cell, append, placed, added}
+use Rattle.battery.specs.Cell.{Cell, append}
 use Rattle.battery.specs.Rules.{◌⊢◌}
-use Rattle.battery.specs.Claims.{Keeps, Lawful, TypedRun, Ends, EveryRunEnds, AppendingIsLawful}
+use Rattle.battery.specs.Claims.{EveryRunEnds, AppendingIsLawful}
 use Rattle.battery.proofs.Total.{never, Some≡, total, Ran, bind_fits, f_nil}
 
 at_last : (cs : List Cell) (c : Cell) → at (cs ++ c ∷ []) (length cs) ≡ Some c

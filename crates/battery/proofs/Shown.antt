@@ -1,9 +1,9 @@
 -- What trees values show.
-use Rattle.std.proofs.Common.{◌≡◌, ℕ, List, [], ◌∷◌, Some, refl, ap, subst, arith}
+use Rattle.std.proofs.Common.{◌≡◌, ℕ, List, refl, ap, subst, arith}
 use Rattle.battery.specs.declared.Ty.{Ty}
 use Rattle.battery.specs.declared.value.Value.{Value}
-use Rattle.battery.specs.Tree.{at, Card}
-use Rattle.battery.specs.Cell.{Cell, text_cell, enum_cell}
+use Rattle.battery.specs.Tree.{Card}
+use Rattle.battery.specs.Cell.{Cell}
 use Rattle.battery.specs.Values.{Has, h_unit, h_num, h_bool, h_text, h_enum, HasAll, h_nil, h_cons, Shown, AllShown, none_shown, ◌and◌, unit_shown, number_shown, boolean_shown, text_shown, enum_shown, Shows, s_unit, s_num, s_bool, s_text, s_enum, ShowAll, s_nil, s_cons}
 use Rattle.battery.specs.Claims.{OneTree, TypedValuesShow}
 

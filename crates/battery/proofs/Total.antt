@@ -1,21 +1,21 @@
 -- A typed judgement has a derivation, whose outcome fits its type.
-use Rattle.std.proofs.Common.{◌≡◌, ℕ, zero, suc, ◌+◌, ◌<◌, ◌≤◌, Bool, true, false, cond, T, eqb, List, [], ◌∷◌, ◌++◌, length, ℤ, Some, None, Option, sym, refl, ap, ◌∙◌, subst, arith, eqb→eq}
+use Rattle.std.proofs.Common.{◌≡◌, ℕ, zero, suc, ◌+◌, ◌<◌, ◌≤◌, Bool, true, false, cond, eqb, List, [], ◌∷◌, ◌++◌, length, ℤ, Some, None, Option, sym, refl, ap, ◌∙◌, subst, arith, eqb→eq}
 use native.Mathlib.Decide.{dec_le, ℕ_discrete}
 use Rattle.battery.specs.declared.Ty.{Ty}
-use Rattle.battery.specs.declared.Ty.TheVariants.{Unit as unit, Number as number, Boolean as boolean, Text as text, Enum as enum}
+use Rattle.battery.specs.declared.Ty.TheVariants.{Number as number, Boolean as boolean, Text as text, Enum as enum}
 use Rattle.battery.specs.declared.Arith.{Arith}
 use Rattle.battery.specs.declared.value.Value.{Value}
-use Rattle.battery.specs.declared.value.Value.TheVariants.{Unit as unit_v, Number as number_v, Boolean as boolean_v, Place as place_v}
+use Rattle.battery.specs.declared.value.Value.TheVariants.{Number as number_v, Boolean as boolean_v, Place as place_v}
 use Rattle.battery.specs.declared.outcome.Stop.{Stop}
-use Rattle.battery.specs.declared.outcome.Stop.TheVariants.{Exit as exits, ZeroDivisor as zero_divisor, OutOfRange as out_of_range, TooLong as too_long, FullStore as full_store, TooDeep as too_deep, Overrun as overrun}
+use Rattle.battery.specs.declared.outcome.Stop.TheVariants.{FullStore as full_store, TooDeep as too_deep, Overrun as overrun}
 use Rattle.battery.specs.declared.outcome.Outcome.{Outcome}
 use Rattle.battery.specs.declared.outcome.Outcome.TheVariants.{Value as value, Stop as stop}
-use Rattle.battery.specs.Tree.{Expr, Unit', Num, Bool', Str, Local, Calc, Concat, Eq, Lt, Seq, If, Val, Call, Make, Match, Exit, Exprs, ∅, ◌&◌, Arms, no_arm, arm, place, Scope, find, bind, at, Fn, Card, in_range}
+use Rattle.battery.specs.Tree.{Expr, Calc, Concat, Eq, Lt, Seq, If, Val, Match, Exit, Exprs, ◌&◌, Arms, arm, Scope, find, bind, at, Card, in_range}
 use Rattle.battery.specs.Typing.{◌∣◌⊢◌∶◌, t_unit, t_num, t_bool, t_str, t_local, t_calc, t_concat, t_eq, t_lt, t_seq, t_if, t_val, t_call, t_make, t_match, t_exit, ◌∣◌⊢⋆◌∶◌, t_nil, t_cons, TypedArms, t_no_arm, t_arm, TypedCard, arms_of}
-use Rattle.battery.specs.Cell.{Cell, text_cell, enum_cell, Put, append, placed, added}
-use Rattle.battery.specs.Rules.{Setup, Outcomes, values, cut, Judgement, ◌⊢◌, same, record_of, first, Move, gives, stops, goes, result_of, arm_of, Rule, r_unit, r_num, r_bool, r_str, r_str_full, r_local, r_calc, r_calc_out, r_calc_zero, r_concat, r_concat_long, r_concat_full, r_eq, r_lt, r_seq, r_if_true, r_if_false, r_val, r_call, r_make, r_make_full, r_match, r_exit, Comparison, answer, fields, pairs, Compare, c_unit, c_num, c_bool, c_text, c_cases, c_fields, Opens, Eval, at_overrun, at_too_deep, part_stops, by_giving, by_stopping, by_going, by_answer, by_fields, Parts, no_part, part, this_stops, later_stops, Pairs, all_equal, pair_equal, pair_differs, pair_stops, Run}
-use Rattle.battery.specs.Values.{Has, h_unit, h_num, h_bool, h_text, h_enum, HasAll, h_nil, h_cons, StopFits, OutcomeFits, Shown, AllShown, none_shown, ◌and◌, unit_shown, number_shown, boolean_shown, text_shown, enum_shown, Shows, s_unit, s_num, s_bool, s_text, s_enum, ShowAll, s_nil, s_cons}
-use Rattle.battery.specs.Claims.{Keeps, Lawful, TypedRun, Ends, EveryRunEnds, AppendingIsLawful, OneTree, TypedValuesShow}
+use Rattle.battery.specs.Cell.{Cell, text_cell, enum_cell}
+use Rattle.battery.specs.Rules.{Setup, Outcomes, values, cut, Judgement, ◌⊢◌, same, record_of, first, Move, gives, stops, goes, result_of, arm_of, Rule, r_unit, r_num, r_bool, r_str, r_str_full, r_local, r_calc, r_calc_out, r_calc_zero, r_concat, r_concat_long, r_concat_full, r_eq, r_lt, r_seq, r_if_true, r_if_false, r_val, r_call, r_make, r_make_full, r_match, r_exit, Comparison, answer, fields, pairs, Compare, c_unit, c_num, c_bool, c_text, c_cases, c_fields, Opens, Eval, at_overrun, at_too_deep, part_stops, by_giving, by_stopping, by_going, by_answer, by_fields, Parts, no_part, part, this_stops, later_stops, Pairs, all_equal, pair_equal, pair_differs, pair_stops}
+use Rattle.battery.specs.Values.{Has, h_unit, h_num, h_bool, h_text, h_enum, HasAll, h_nil, h_cons, StopFits, OutcomeFits}
+use Rattle.battery.specs.Claims.{Keeps, Lawful}
 
 -- what an Option's constructors tell
 pub never : {A P : Type 0} (a : A) → ◌≡◌ {A = Option A} None (Some a) → P

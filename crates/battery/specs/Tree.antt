@@ -1,7 +1,6 @@
 -- What a card's functions are written in.
 use Rattle.std.specs.Prelude.{ℕ, zero, suc, Bool, false, cond, List, [], ◌∷◌, ℤ, pos, negsuc, Some, None, Option, ◌==◌, int_le}
 use Rattle.battery.specs.declared.Ty.{Ty}
-use Rattle.battery.specs.declared.Ty.TheVariants.{Enum as enum}
 use Rattle.battery.specs.declared.Arith.{Arith}
 
 abbrev pub ◌▸◌ : {A B : Type 0} → Option A → (A → Option B) → Option B

@@ -1,5 +1,5 @@
 -- Worked cases of the rules.
-use Rattle.std.specs.Prelude.{◌≡◌, ℕ, true, List, [], ◌∷◌, ◌++◌, length, ℤ, pos, negsuc, Some}
+use Rattle.std.specs.Prelude.{◌≡◌, ℕ, true, List, [], ◌∷◌, length, ℤ, pos, negsuc, Some}
 use Rattle.battery.specs.declared.Ty.TheVariants.{Number as number, Text as text, Enum as enum}
 use Rattle.battery.specs.declared.Arith.{Arith}
 use Rattle.battery.specs.declared.Arith.TheVariants.{Div, Mod}

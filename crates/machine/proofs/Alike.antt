@@ -1,18 +1,15 @@
 -- The same run over two stores that answer alike unless one refuses.
-use Rattle.std.proofs.Common.{◌≡◌, ℕ, zero, suc, ◌+◌, ◌-◌, ◌<◌, ◌≤◌, Bool, true, false, cond, T, eqb, ltb, leb, ◌≢◌, ◌⊎◌, List, [], ◌∷◌, ◌++◌, length, Some, None, Option, sym, refl, ap, ◌∙◌, subst, inl, inr, append_assoc, append-nil, suc-add, zero-add, arith, le→leb, eqb→eq, leb→le}
-use mathlib.Core.Path.{subst₃}
+use Rattle.std.proofs.Common.{◌≡◌, ℕ, zero, suc, ◌≤◌, Bool, true, false, cond, ltb, leb, ◌⊎◌, List, [], ◌∷◌, ◌++◌, length, Some, None, Option, sym, refl, ap, ◌∙◌, subst, inl, inr, arith}
 use native.Mathlib.Decide.{dec_le}
-use lib.Dec.{eqb_refl}
 use Rattle.battery.specs.declared.value.Value.{Value}
-use Rattle.battery.specs.declared.value.Value.TheVariants.{Unit as unit_v, Number as number_v, Boolean as boolean_v, Place as place_v}
-use Rattle.battery.specs.declared.outcome.Stop.{Stop}
-use Rattle.battery.specs.declared.outcome.Stop.TheVariants.{FullStore as full_store, TooDeep as too_deep, Overrun as overrun}
+use Rattle.battery.specs.declared.value.Value.TheVariants.{Boolean as boolean_v}
+use Rattle.battery.specs.declared.outcome.Stop.TheVariants.{FullStore as full_store, TooDeep as too_deep}
 use Rattle.battery.specs.declared.outcome.Outcome.{Outcome}
-use Rattle.battery.specs.declared.outcome.Outcome.TheVariants.{Value as value, Stop as stop}
-use Rattle.battery.specs.Tree.{Expr, Unit', Num, Bool', Str, Local, Calc, Concat, Eq, Lt, Seq, If, Val, Call, Make, Match, Exit, Exprs, ∅, ◌&◌, place, Scope, bind, Fn, ◌▸◌}
+use Rattle.battery.specs.declared.outcome.Outcome.TheVariants.{Stop as stop}
+use Rattle.battery.specs.Tree.{Expr, Unit', Num, Bool', Str, Local, Calc, Concat, Eq, Lt, Seq, If, Val, Call, Make, Match, Exit, Exprs, ∅, ◌&◌, place, Scope, ◌▸◌}
 use Rattle.battery.specs.Cell.{Cell, text_cell, enum_cell, Put, append}
 use Rattle.battery.specs.Rules.{Setup, Judgement, ◌⊢◌, same, record_of, first, Move, gives, stops, goes, Comparison, answer, fields}
-use Rattle.machine.specs.Machine.{one, two, of_bool, of_cell, of_text, putting, after, compare, Frame, waits, compares, passes, State, going, ended, stuck, arrive, Back, act, parting, pairing, settle, comparing, resume, begin, step, turn}
+use Rattle.machine.specs.Machine.{two, of_bool, of_cell, of_text, putting, after, compare, Frame, waits, compares, passes, State, going, ended, stuck, Back, act, parting, pairing, settle, comparing, resume, begin, step, turn}
 use Rattle.machine.specs.Claims.{start, Going, over, Full, is_full, Alike, AlikeOverStores}
 use Rattle.machine.proofs.Turns.{follows_rules, whole, not_going, ended_alike}
 

@@ -1,18 +1,13 @@
 -- What the rules derive, the machine runs through.
-use Rattle.std.proofs.Common.{◌≡◌, ℕ, zero, suc, ◌+◌, ◌-◌, ◌<◌, ◌≤◌, Bool, true, false, cond, T, eqb, ltb, leb, ◌≢◌, ◌⊎◌, List, [], ◌∷◌, ◌++◌, length, Some, None, Option, sym, refl, ap, ◌∙◌, subst, inl, inr, append_assoc, append-nil, suc-add, zero-add, arith, le→leb, eqb→eq, leb→le}
-use mathlib.Core.Path.{subst₃}
-use native.Mathlib.Decide.{dec_le}
+use Rattle.std.proofs.Common.{◌≡◌, ℕ, zero, suc, ◌+◌, ◌<◌, ◌≤◌, Bool, true, false, T, eqb, leb, ◌≢◌, List, [], ◌∷◌, ◌++◌, length, Some, sym, refl, ap, ◌∙◌, subst, append_assoc, append-nil, suc-add, zero-add, arith, le→leb, eqb→eq, leb→le}
 use lib.Dec.{eqb_refl}
 use Rattle.battery.specs.declared.value.Value.{Value}
-use Rattle.battery.specs.declared.value.Value.TheVariants.{Unit as unit_v, Number as number_v, Boolean as boolean_v, Place as place_v}
-use Rattle.battery.specs.declared.outcome.Stop.{Stop}
-use Rattle.battery.specs.declared.outcome.Stop.TheVariants.{FullStore as full_store, TooDeep as too_deep, Overrun as overrun}
 use Rattle.battery.specs.declared.outcome.Outcome.{Outcome}
 use Rattle.battery.specs.declared.outcome.Outcome.TheVariants.{Value as value, Stop as stop}
-use Rattle.battery.specs.Tree.{Expr, Unit', Num, Bool', Str, Local, Calc, Concat, Eq, Lt, Seq, If, Val, Call, Make, Match, Exit, Exprs, ∅, ◌&◌, place, Scope, bind, Fn, ◌▸◌}
-use Rattle.battery.specs.Cell.{Cell, text_cell, enum_cell, Put, append}
-use Rattle.battery.specs.Rules.{Setup, Outcomes, values, cut, Judgement, ◌⊢◌, same, record_of, first, Move, gives, stops, goes, Rule, r_unit, r_num, r_bool, r_str, r_str_full, r_local, r_calc, r_calc_out, r_calc_zero, r_concat, r_concat_long, r_concat_full, r_eq, r_lt, r_seq, r_if_true, r_if_false, r_val, r_call, r_make, r_make_full, r_match, r_exit, Comparison, answer, fields, Compare, c_unit, c_num, c_bool, c_text, c_cases, c_fields, Opens, Eval, at_overrun, at_too_deep, part_stops, by_giving, by_stopping, by_going, by_answer, by_fields, Parts, no_part, part, this_stops, later_stops, Pairs, all_equal, pair_equal, pair_differs, pair_stops}
-use Rattle.machine.specs.Machine.{after, compare, Frame, waits, compares, passes, State, going, ended, stuck, arrive, act, parting, pairing, settle, resume, begin, step, turn}
+use Rattle.battery.specs.Tree.{Expr, Exprs, ∅, place, Scope}
+use Rattle.battery.specs.Cell.{Cell}
+use Rattle.battery.specs.Rules.{Setup, Outcomes, values, cut, Judgement, ◌⊢◌, same, Move, Rule, r_unit, r_num, r_bool, r_str, r_str_full, r_local, r_calc, r_calc_out, r_calc_zero, r_concat, r_concat_long, r_concat_full, r_eq, r_lt, r_seq, r_if_true, r_if_false, r_val, r_call, r_make, r_make_full, r_match, r_exit, Comparison, Compare, c_unit, c_num, c_bool, c_text, c_cases, c_fields, Opens, Eval, at_overrun, at_too_deep, part_stops, by_giving, by_stopping, by_going, by_answer, by_fields, Parts, no_part, part, this_stops, later_stops, Pairs, all_equal, pair_equal, pair_differs, pair_stops}
+use Rattle.machine.specs.Machine.{after, compare, Frame, waits, compares, passes, State, ended, arrive, act, parting, pairing, settle, resume, begin, step, turn}
 
 -- tests
 T_true : (b : Bool) → T b → b ≡ true

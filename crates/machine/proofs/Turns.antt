@@ -1,21 +1,19 @@
 -- A run ends as the rules say, whatever its turns.
-use Rattle.std.proofs.Common.{◌≡◌, ℕ, zero, suc, ◌+◌, ◌-◌, ◌<◌, ◌≤◌, Bool, true, false, cond, T, eqb, ltb, leb, ◌≢◌, ◌⊎◌, List, [], ◌∷◌, ◌++◌, length, Some, None, Option, sym, refl, ap, ◌∙◌, subst, inl, inr, append_assoc, append-nil, suc-add, zero-add, arith, le→leb, eqb→eq, leb→le}
+use Rattle.std.proofs.Common.{◌≡◌, ℕ, zero, suc, ◌+◌, ◌-◌, ◌<◌, ◌≤◌, Bool, true, false, cond, leb, ◌⊎◌, List, [], ◌∷◌, ◌++◌, length, Some, None, Option, sym, refl, ap, ◌∙◌, subst, inl, inr, arith}
 use mathlib.Core.Path.{subst₃}
 use native.Mathlib.Decide.{dec_le}
-use lib.Dec.{eqb_refl}
 use Rattle.battery.specs.declared.value.Value.{Value}
-use Rattle.battery.specs.declared.value.Value.TheVariants.{Unit as unit_v, Number as number_v, Boolean as boolean_v, Place as place_v}
-use Rattle.battery.specs.declared.outcome.Stop.{Stop}
-use Rattle.battery.specs.declared.outcome.Stop.TheVariants.{FullStore as full_store, TooDeep as too_deep, Overrun as overrun}
+use Rattle.battery.specs.declared.value.Value.TheVariants.{Boolean as boolean_v}
+use Rattle.battery.specs.declared.outcome.Stop.TheVariants.{TooDeep as too_deep, Overrun as overrun}
 use Rattle.battery.specs.declared.outcome.Outcome.{Outcome}
 use Rattle.battery.specs.declared.outcome.Outcome.TheVariants.{Value as value, Stop as stop}
-use Rattle.battery.specs.Tree.{Expr, Unit', Num, Bool', Str, Local, Calc, Concat, Eq, Lt, Seq, If, Val, Call, Make, Match, Exit, Exprs, ∅, ◌&◌, place, Scope, bind, Fn, ◌▸◌}
-use Rattle.battery.specs.Cell.{Cell, text_cell, enum_cell, Put, append}
+use Rattle.battery.specs.Tree.{Expr, Exprs, ∅, ◌&◌, place, Scope, bind, Fn}
+use Rattle.battery.specs.Cell.{Cell}
 use Rattle.battery.specs.Rules.{Setup, Judgement, ◌⊢◌, same, record_of, first, Move, gives, stops, goes, Comparison, answer, fields, Eval, Run}
 use Rattle.battery.specs.Claims.{TypedRun, Ends}
 use Rattle.battery.proofs.Appending.{every_run_ends}
 use Rattle.machine.specs.Machine.{of_bool, Frame, waits, compares, passes, State, going, ended, stuck, arrive, act, parting, pairing, settle, comparing, resume, begin, step, turn, after, compare, Back}
-use Rattle.machine.specs.Claims.{start, Going, is_going, TurnsAddUp, OneOutcome, After, Runs, RunsByTheRules, Alike, AlikeOverEqualMosts, KInTurns}
+use Rattle.machine.specs.Claims.{start, Going, is_going, TurnsAddUp, OneOutcome, RunsByTheRules, Alike, AlikeOverEqualMosts, KInTurns}
 use Rattle.machine.proofs.Follows.{Reaches, turn_more, finish, follows}
 
 -- the units that a state has spent

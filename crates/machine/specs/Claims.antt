@@ -6,7 +6,7 @@ use Rattle.battery.specs.declared.outcome.Outcome.{Outcome}
 use Rattle.battery.specs.declared.outcome.Outcome.TheVariants.{Value as value, Stop as stop}
 use Rattle.battery.specs.declared.outcome.Stop.TheVariants.{FullStore as full_store}
 use Rattle.battery.specs.Tree.{bind, Fn}
-use Rattle.battery.specs.Cell.{Cell, enum_cell, Put, append}
+use Rattle.battery.specs.Cell.{Cell, enum_cell, append}
 use Rattle.battery.specs.Rules.{Setup, Judgement, ◌⊢◌, Run, plotter}
 use Rattle.battery.specs.Claims.{TypedRun, Ends}
 use Rattle.battery.specs.Worked.{k_rule, card_K, Spit}

@@ -13,7 +13,7 @@ use Rattle.table.specs.declared.token.Pair.TheVariants.{Val as VAL}
 use Rattle.grammar.specs.Grammar.{Piece, type, expr, exprs, arms, leaf_at, take_arms, or_close, card_of, pieces_of}
 use Rattle.numbering.proofs.Lists.{drop_at}
 use Rattle.numbering.proofs.Options.{never, Some≡}
-use Rattle.numbering.proofs.Parts.{behind, no_expr, only_type, of_leaf, of_pair, of_match, of_exit, of_arm, of_no_arm, arms_first, ArmsToken, is_close_lem, is_arm, arms_token, some_arm, Armed}
+use Rattle.numbering.proofs.Parts.{no_expr, only_type, of_leaf, of_pair, of_match, of_exit, of_arm, of_no_arm, arms_first, ArmsToken, is_close_lem, is_arm, arms_token, some_arm, Armed}
 use Rattle.verdict.specs.Order.{Checked, has, fault, ◌▹◌, rule, there, same_ty, enum_of, check, check_all, check_arms, all_as, all_once, arms_named, fields_of, common}
 use Rattle.rules.specs.declared.fault.Broken.TheVariants.{Mistyped, Arms as OfArms}
 use Rattle.rules.specs.declared.fault.TypeFault.{TypeFault}

@@ -1,5 +1,5 @@
 -- What form sees to, all through a card that is spelt.
-use Rattle.std.proofs.Common.{◌≡◌, ℕ, zero, suc, ◌-◌, Bool, true, false, cond, List, [], ◌∷◌, Some, None, sym, refl, subst, arith, length-take}
+use Rattle.std.proofs.Common.{◌≡◌, ℕ, zero, suc, Bool, true, false, cond, List, [], ◌∷◌, Some, None, sym, refl, subst, arith, length-take}
 use Rattle.battery.specs.declared.Ty.{Ty}
 use Rattle.battery.specs.Tree.{Expr, Exprs, ∅, ◌&◌, Arms, no_arm, arm, at, Fn, Card}
 use Rattle.table.specs.declared.token.Token.{Token}
@@ -20,7 +20,7 @@ use Rattle.numbering.specs.Numbering.{Seen, seen, none_seen, many_there, numbere
 use Rattle.numbering.specs.Limits.{LimitedLeaf as InLeaf, LimitedHead as InHead, Limited as InToken, AllLimited as InTokens}
 use Rattle.numbering.proofs.Limits.{all_limited as tokens_in_lem}
 use Rattle.verdict.specs.Verdict.{Form}
-use Rattle.numbering.proofs.Options.{through, Some≡, never}
+use Rattle.numbering.proofs.Options.{Some≡, never}
 
 -- tokens that name what the card has
 module _ (C : Card) where

@@ -1,7 +1,6 @@
 -- What the form of a card has seen to before its functions are typed.
 use Rattle.std.specs.Prelude.{◌≡◌, ℕ, ◌≤◌, true, List, [], ◌∷◌, length, Some}
 use Rattle.battery.specs.declared.Ty.{Ty}
-use Rattle.battery.specs.declared.Ty.TheVariants.{Number as number, Text as text}
 use Rattle.battery.specs.Tree.{Expr, Unit', Num, Bool', Str, Local, Calc, Concat, Eq, Lt, Seq, If, Val, Call, Make, Match, Exit, Exprs, ∅, ◌&◌, Arms, no_arm, arm, at, Fn, Card, in_range}
 use Rattle.numbering.specs.Numbering.{is_there, type_there, case_of}
 
