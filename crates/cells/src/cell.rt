@@ -1,7 +1,7 @@
 ghost use Rattle.std.specs.Prelude.{◌≡◌, Decides};
 ghost use Rattle.cells.specs.Meaning.{meaning};
-ghost use Rattle.std.specs.Cmp.Rules.{comparing};
-ghost use Rattle.std.proofs.Common.{rules};
+ghost use Rattle.cells.specs.Same.{same_cell};
+ghost use Rattle.cells.specs.Means.{same_cell_laws};
 
 use crate::{Text, Values};
 
@@ -21,11 +21,14 @@ pub enum Cell {
 
 // Cells are equal when they mean the same, whatever lies in the bytes and fields that are not used.
 impl PartialEq for Cell {
-    ghost equals = { λ a b r. Decides r (meaning a ≡ meaning b) };
+    ghost eq = { same_cell };
 
-    ghost laws = { Prim.search (comparing, rules) };
+    ghost laws = { same_cell_laws };
 
-    fn eq(&self, other: &Cell) -> bool {
+    fn eq(&self, other: &Cell) -> bool
+        ensures value { result ≡ same_cell self.now other.now }
+        ensures means { Decides result (meaning self.now ≡ meaning other.now) }
+    {
         match (self, other) {
             (Cell::Text(a), Cell::Text(b)) => *a == *b,
             (Cell::Enum(a), Cell::Enum(b)) => {

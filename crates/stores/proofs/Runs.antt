@@ -1,6 +1,6 @@
 -- Laws of the cells that a run holds, and of a look at a place.
 use Rattle.std.proofs.Common.{◌≡◌, ℕ, zero, suc, ◌+◌, ◌<◌, ◌≤◌, min, List, [], ◌∷◌, ◌++◌, map, length, get_or, take, set, Some, None, sym, refl, ap, ◌∙◌, le_of_suc-le-suc, not-suc-le-zero, arith, length-set, length-take}
-use Rattle.std.proofs.lemmas.List.{length-map, map-append, take_more_set, length_push}
+use Rattle.std.proofs.lemmas.List.{length-map, map-append, take_more_set}
 use Rattle.battery.specs.Tree.{at}
 use Rattle.cells.specs.Meaning.{meaning}
 use Rattle.cells.specs.declared.cell.Cell.{Cell}

@@ -1,7 +1,7 @@
 ghost use Rattle.std.specs.Prelude.{◌≡◌, true, leb, ◌++◌, length, take, drop, if◌then◌else◌, Some, None, Decides, nat_le};
 ghost use Rattle.cells.specs.Meaning.{text_of, answered};
-ghost use Rattle.std.specs.Cmp.Rules.{comparing};
-ghost use Rattle.std.proofs.Common.{rules, arith};
+ghost use Rattle.cells.specs.Same.{same_text};
+ghost use Rattle.cells.specs.Means.{same_text_laws};
 
 use super::Text;
 
@@ -43,11 +43,14 @@ impl Text {
 }
 
 impl PartialEq for Text {
-    ghost equals = { λ a b r. Decides r (text_of a ≡ text_of b) };
+    ghost eq = { same_text };
 
-    ghost laws = { first_of (Prim.search (comparing, rules), Prim.grind (arith, Self.row.coded.inj)) };
+    ghost laws = { same_text_laws };
 
-    fn eq(&self, other: &Text) -> bool {
+    fn eq(&self, other: &Text) -> bool
+        ensures value { result ≡ same_text self.now other.now }
+        ensures means { Decides result (text_of self.now ≡ text_of other.now) }
+    {
         self.bytes() == other.bytes()
     }
 }

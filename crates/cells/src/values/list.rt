@@ -1,7 +1,7 @@
 ghost use Rattle.std.specs.Prelude.{◌≡◌, [], ◌∷◌, ◌++◌, length, if◌then◌else◌, Decides, nat_lt};
 ghost use Rattle.cells.specs.Meaning.{values_of};
-ghost use Rattle.std.specs.Cmp.Rules.{comparing};
-ghost use Rattle.std.proofs.Common.{rules, arith};
+ghost use Rattle.cells.specs.Same.{same_values};
+ghost use Rattle.cells.specs.Means.{same_values_laws};
 
 use super::Values;
 use battery::Value;
@@ -35,11 +35,14 @@ impl Values {
 }
 
 impl PartialEq for Values {
-    ghost equals = { λ a b r. Decides r (values_of a ≡ values_of b) };
+    ghost eq = { same_values };
 
-    ghost laws = { first_of (Prim.search (comparing, rules), Prim.grind (arith, Self.row.coded.inj)) };
+    ghost laws = { same_values_laws };
 
-    fn eq(&self, other: &Values) -> bool {
+    fn eq(&self, other: &Values) -> bool
+        ensures value { result ≡ same_values self.now other.now }
+        ensures means { Decides result (values_of self.now ≡ values_of other.now) }
+    {
         self.slice() == other.slice()
     }
 }

@@ -1,5 +1,5 @@
 -- The bytes stand at the start, where they were copied.
-use Rattle.std.proofs.Common.{refl, rules}
+use Rattle.std.proofs.Common.{rules}
 use Rattle.std.proofs.lemmas.List.{take_at}
 use Rattle.cells.proofs.text.made.copied.Goals as goal
 

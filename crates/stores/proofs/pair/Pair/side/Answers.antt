@@ -1,4 +1,4 @@
-use Rattle.std.proofs.Common.{◌≡◌, ℕ, ◌-◌, ◌<◌, ◌≤◌, List, length, ap, ◌∙◌, ⊎_elim, arith}
+use Rattle.std.proofs.Common.{ℕ, length, ap, ◌∙◌, arith}
 use Rattle.stores.specs.Pair.{chain}
 use Rattle.stores.proofs.Chains.{in_first, in_second, in_neither}
 use Rattle.stores.proofs.pair.Pair.side.Goals as goal
