@@ -19,13 +19,13 @@ pub returns-in_err-place : goal.returns-in_err-place
 returns-in_err-place c C read =
     let p = c.args.self.now in
     let none = c.in_err-place.ensures ∙ ap (λ ps. at ps c.args.f) p.defined in
-    subst (OfFunction (text_in p) (tokens_in p) (at C.fns c.args.f)) (sym c.from-residual.ensures) (none_called (text_in p) (tokens_in p) C read c.args.f none)
+    subst (OfFunction (text_in p) (tokens_in p) (at C.fns c.args.f)) (sym c.from_residual.ensures) (none_called (text_in p) (tokens_in p) C read c.args.f none)
 
 pub returns-in_err-parameters : goal.returns-in_err-parameters
 returns-in_err-parameters c C read =
     let p = c.args.self.now in
     let place = c.in_ok-place.ensures ∙ ap (λ ps. at ps c.args.f) p.defined in
-    subst (OfFunction (text_in p) (tokens_in p) (at C.fns c.args.f)) (sym c.from-residual-in_err-parameters.ensures) (no_def (text_in p) (tokens_in p) C read c.args.f _ place c.in_err-parameters.ensures)
+    subst (OfFunction (text_in p) (tokens_in p) (at C.fns c.args.f)) (sym c.from_residual-in_err-parameters.ensures) (no_def (text_in p) (tokens_in p) C read c.args.f _ place c.in_err-parameters.ensures)
 
 pub overflow_add-result : goal.overflow_add-result
 overflow_add-result c = let b = below c in omega arith

@@ -6,8 +6,8 @@ use Rattle.numbering.proofs.Limits.{all_limited}
 use Rattle.program.proofs.Cards.{as_read}
 use Rattle.program.proofs.program.Program.read.Goals as goal
 
-pub on-card-requires : goal.on-card-requires
-on-card-requires c =
+pub on_card-requires : goal.on_card-requires
+on_card-requires c =
     let counts = c.in-Ok.ensures.whole in
     record {
       tokens = (c.in_ok-tokens.ensures.whole, counts.1, counts.2);

@@ -6,9 +6,9 @@ use Rattle.program.proofs.program.build.known.Goals as goal
 
 pub returns-in-Ok : goal.returns-in-Ok
 returns-in-Ok c =
-    let long : length c.tokens-of.new.tokens ≡ c.args.records = c.tokens-of.auto.tokens ∙ search (rules, places) in
-    let known = all_known c.args.image.now c.args.records (omega arith) _ _ _ c.new.ensures.0 c.new.ensures.1 (search (rules, places)) c.tokens-of.new.tokens c.in-Ok.ensures in
-    record { tokens = known ∙ ap Some (sym (take_at c.tokens-of.new.tokens _ c.args.records long)); whole = search (rules, places) }
+    let long : length c.tokens_of.new.tokens ≡ c.args.records = c.tokens_of.auto.tokens ∙ search (rules, places) in
+    let known = all_known c.args.image.now c.args.records (omega arith) _ _ _ c.new.ensures.0 c.new.ensures.1 (search (rules, places)) c.tokens_of.new.tokens c.in-Ok.ensures in
+    record { tokens = known ∙ ap Some (sym (take_at c.tokens_of.new.tokens _ c.args.records long)); whole = search (rules, places) }
 
 pub returns-in-Err : goal.returns-in-Err
 returns-in-Err c = record {
