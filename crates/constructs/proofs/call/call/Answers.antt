@@ -24,7 +24,7 @@ returns c =
     let r = c.requires.0 in
     let n = length-take-le w.have w.values (omega arith) in
     let z : w.have - 0 ≡ w.have = omega arith in
-    let v = rw z at c.bind-above.ensures.scope in
+    let v = rw z at c.bind_above.ensures.scope in
     let h : w.job.height + w.have ≡ w.job.height + length (vals w) = omega arith in
-    call_did c.args.program.now w c.requires.1.0 c.args.f c.requires.0.start c.requires.1.1 c.args.entries.now c.bind-above.new.entries c.in-Some.called (w.job.height + w.have)
-    (c.in-Some.ensures (card_in c.args.program.now) (spelt_card c.args.program.now)) (c.if-called-w.false ∙ sym n) h (omega arith) c.bind-above.ensures.agree v
+    call_did c.args.program.now w c.requires.1.0 c.args.f c.requires.0.start c.requires.1.1 c.args.entries.now c.bind_above.new.entries c.in-Some.called (w.job.height + w.have)
+    (c.in-Some.ensures (card_in c.args.program.now) (spelt_card c.args.program.now)) (c.if-called-w.false ∙ sym n) h (omega arith) c.bind_above.ensures.agree v

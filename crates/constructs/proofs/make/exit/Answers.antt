@@ -9,12 +9,12 @@ returns-in_default g c =
     let n = node_of c.args.program.now c.args.w.now.job.at EXIT c.requires.0.start c.requires.1 in
     exit_none c.args.program.now c.args.w.now (g.S.Store.cells c.args.store.now) _ _ n.1.1 c.in_default.ensures
 
-pub returns-in_default-text-at : goal.returns-in_default-text-at
-returns-in_default-text-at g c =
+pub returns-in_default-text_at : goal.returns-in_default-text_at
+returns-in_default-text_at g c =
     let n = node_of c.args.program.now c.args.w.now.job.at EXIT c.requires.0.start c.requires.1 in
-    exit_no_text c.args.program.now c.args.w.now (g.S.Store.cells c.args.store.now) _ _ n.1.1 c.in-Some.v c.in-Some.ensures c.in_default-text-at.ensures
+    exit_no_text c.args.program.now c.args.w.now (g.S.Store.cells c.args.store.now) _ _ n.1.1 c.in-Some.v c.in-Some.ensures c.in_default-text_at.ensures
 
 pub returns : goal.returns
 returns g c =
     let n = node_of c.args.program.now c.args.w.now.job.at EXIT c.requires.0.start c.requires.1 in
-    exit_did c.args.program.now c.args.w.now (g.S.Store.cells c.args.store.now) _ _ n.1.1 c.in-Some.v (text_of c.in-Some-text-at.field-0) c.in-Some.ensures c.in-Some-text-at.ensures
+    exit_did c.args.program.now c.args.w.now (g.S.Store.cells c.args.store.now) _ _ n.1.1 c.in-Some.v (text_of c.in-Some-text_at.field-0) c.in-Some.ensures c.in-Some-text_at.ensures

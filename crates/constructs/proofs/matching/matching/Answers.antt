@@ -16,50 +16,50 @@ returns-in_default g c =
     let n = node_of c.args.program.now c.args.w.now.job.at MATCH c.requires.0.start c.requires.1 in
     match_none c.args.program.now c.args.w.now (g.S.Store.cells c.args.store.now) _ _ n.2 c.args.entries.now c.in_default.ensures
 
-pub returns-in_default-enum-at : goal.returns-in_default-enum-at
-returns-in_default-enum-at g c =
+pub returns-in_default-enum_at : goal.returns-in_default-enum_at
+returns-in_default-enum_at g c =
     let n = node_of c.args.program.now c.args.w.now.job.at MATCH c.requires.0.start c.requires.1 in
-    match_no_enum c.args.program.now c.args.w.now (g.S.Store.cells c.args.store.now) _ _ n.2 c.args.entries.now c.in-Some.v c.in-Some.ensures c.in_default-enum-at.ensures
+    match_no_enum c.args.program.now c.args.w.now (g.S.Store.cells c.args.store.now) _ _ n.2 c.args.entries.now c.in-Some.v c.in-Some.ensures c.in_default-enum_at.ensures
 
-pub arm-for-requires : goal.arm-for-requires
-arm-for-requires g c =
+pub arm_for-requires : goal.arm_for-requires
+arm_for-requires g c =
     let k = c.args.program.now in
     let n = node_of k c.args.w.now.job.at MATCH c.requires.0.start c.requires.1 in
     (next_arms k c.args.w.now.job.at c.end-from.result c.end-from.ensures n.1).1
 
-pub returns-in_default-arm-for : goal.returns-in_default-arm-for
-returns-in_default-arm-for g c =
+pub returns-in_default-arm_for : goal.returns-in_default-arm_for
+returns-in_default-arm_for g c =
     let k = c.args.program.now in
     let w = c.args.w.now in
-    let value = c.in-Some-enum-at.value in
+    let value = c.in-Some-enum_at.value in
     let n = node_of k w.job.at MATCH c.requires.0.start c.requires.1 in
     let q = (next_arms k w.job.at c.end-from.result c.end-from.ensures n.1).0 in
-    match_no_arm k w (g.S.Store.cells c.args.store.now) _ _ n.2 c.in-Some.v (enum_of value) c.in-Some.ensures c.in-Some-enum-at.ensures c.args.entries.now
-    (subst (λ m. OfArm (text_in k) (tokens_in k) (arm_of (arms_at (text_in k) (tokens_in k) m) value.case) None) q c.in_default-arm-for.ensures)
+    match_no_arm k w (g.S.Store.cells c.args.store.now) _ _ n.2 c.in-Some.v (enum_of value) c.in-Some.ensures c.in-Some-enum_at.ensures c.args.entries.now
+    (subst (λ m. OfArm (text_in k) (tokens_in k) (arm_of (arms_at (text_in k) (tokens_in k) m) value.case) None) q c.in_default-arm_for.ensures)
 
 pub returns-then-fields-arm : goal.returns-then-fields-arm
 returns-then-fields-arm g c =
     let k = c.args.program.now in
     let w = c.args.w.now in
-    let value = c.in-Some-enum-at.value in
+    let value = c.in-Some-enum_at.value in
     let n = node_of k w.job.at MATCH c.requires.0.start c.requires.1 in
     let q = (next_arms k w.job.at c.end-from.result c.end-from.ensures n.1).0 in
-    match_not k w (g.S.Store.cells c.args.store.now) _ _ n.2 c.in-Some.v (enum_of value) c.in-Some.ensures c.in-Some-enum-at.ensures c.args.entries.now c.in-Some-arm-for.arm
-    (subst (λ m. OfArm (text_in k) (tokens_in k) (arm_of (arms_at (text_in k) (tokens_in k) m) value.case) (Some c.in-Some-arm-for.arm)) q c.in-Some-arm-for.ensures)
+    match_not k w (g.S.Store.cells c.args.store.now) _ _ n.2 c.in-Some.v (enum_of value) c.in-Some.ensures c.in-Some-enum_at.ensures c.args.entries.now c.in-Some-arm_for.arm
+    (subst (λ m. OfArm (text_in k) (tokens_in k) (arm_of (arms_at (text_in k) (tokens_in k) m) value.case) (Some c.in-Some-arm_for.arm)) q c.in-Some-arm_for.ensures)
     (λ e. c.if-fields-arm.true (ap length c.slice-fields.ensures ∙ e))
 
 pub returns : goal.returns
 returns g c =
     let k = c.args.program.now in
     let w = c.args.w.now in
-    let value = c.in-Some-enum-at.value in
+    let value = c.in-Some-enum_at.value in
     let n = node_of k w.job.at MATCH c.requires.0.start c.requires.1 in
     let q = (next_arms k w.job.at c.end-from.result c.end-from.ensures n.1).0 in
     let l = ap length c.slice-fields.ensures in
     let few = values_few value.fields in
     let height : w.job.height + length c.slice-fields.result.now ≡ w.job.height + length (values_of value.fields) = omega arith in
-    let b = rw c.slice-fields.ensures at c.bind-above.ensures.scope in
-    match_did k w (g.S.Store.cells c.args.store.now) _ _ n.2 c.in-Some.v (enum_of value) c.in-Some.ensures c.in-Some-enum-at.ensures c.args.entries.now c.bind-above.new.entries
-    c.in-Some-arm-for.arm (w.job.height + length c.slice-fields.result.now)
-    (subst (λ m. OfArm (text_in k) (tokens_in k) (arm_of (arms_at (text_in k) (tokens_in k) m) value.case) (Some c.in-Some-arm-for.arm)) q c.in-Some-arm-for.ensures)
-    (sym l ∙ c.if-fields-arm.false) c.requires.0.based height (omega arith) c.bind-above.ensures.agree b
+    let b = rw c.slice-fields.ensures at c.bind_above.ensures.scope in
+    match_did k w (g.S.Store.cells c.args.store.now) _ _ n.2 c.in-Some.v (enum_of value) c.in-Some.ensures c.in-Some-enum_at.ensures c.args.entries.now c.bind_above.new.entries
+    c.in-Some-arm_for.arm (w.job.height + length c.slice-fields.result.now)
+    (subst (λ m. OfArm (text_in k) (tokens_in k) (arm_of (arms_at (text_in k) (tokens_in k) m) value.case) (Some c.in-Some-arm_for.arm)) q c.in-Some-arm_for.ensures)
+    (sym l ∙ c.if-fields-arm.false) c.requires.0.based height (omega arith) c.bind_above.ensures.agree b

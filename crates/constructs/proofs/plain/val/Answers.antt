@@ -18,6 +18,6 @@ returns c =
     let w = c.args.w.now in
     let n = node_of k w.job.at (PAIR (VAL c.args.name)) c.requires.0.start c.requires.1 in
     let e = behind_first k w.job.at c.end.result c.end.ensures in
-    val_did k w c.in-Some.v c.args.entries.now c.bind-above.new.entries c.args.name c.end.result
+    val_did k w c.in-Some.v c.args.entries.now c.bind_above.new.entries c.args.name c.end.result
     {a = expr k (suc w.job.at)} (rw e n.1)
-    c.in-Some.ensures c.requires.0.based (rw e n.0.1.0) c.bind-above.ensures.agree c.bind-above.ensures.scope
+    c.in-Some.ensures c.requires.0.based (rw e n.0.1.0) c.bind_above.ensures.agree c.bind_above.ensures.scope

@@ -10,4 +10,4 @@ returns c =
     let bytes = c.args.bytes.now in
     let l = length-take-le c.args.from all (omega arith) in
     let m : length (take c.args.from all ++ bytes) ≡ c.args.from + length bytes = length-append (take c.args.from all) bytes ∙ ap (λ n. n + length bytes) l in
-    simp c.copy-from-slice.ensures.after (take_front (take c.args.from all) bytes _ (c.args.from + length bytes) m)
+    simp c.copy_from_slice.ensures.after (take_front (take c.args.from all) bytes _ (c.args.from + length bytes) m)
