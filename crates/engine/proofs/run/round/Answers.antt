@@ -52,7 +52,7 @@ returns-in-Compares g c =
     record {
       most = c.rule.ensures.most;
       does = pairs_done c.args.program.now c.args.run.now.entries c.rule.new.entries (held c.args.run.now.stack) (held c.pass-in-Compares.new.self) c.in-Whole.w c.args.run.now.units (g.S.Store.limit c.args.run.now.store)
-          (g.S.Store.cells c.args.run.now.store) (g.S.Store.cells c.rule.new.store) c.in-Compares.pair c.arrive-pair-run.result f c.in-Compares.ensures.does p c.arrive-pair-run.ensures;
+          (g.S.Store.cells c.args.run.now.store) (g.S.Store.cells c.rule.new.store) c.in-Compares.pair c.arrive_pair-run.result f c.in-Compares.ensures.does p c.arrive_pair-run.ensures;
     }
 
 pub returns-in-Compare : goal.returns-in-Compare
@@ -60,7 +60,7 @@ returns-in-Compare g c =
     record {
       most = refl;
       does = compare_done c.args.program.now c.args.run.now.entries (held c.args.run.now.stack) (held c.part.new.self) c.args.run.now.units (g.S.Store.limit c.args.run.now.store) (g.S.Store.cells c.args.run.now.store)
-          c.in-Compare.pair c.arrive-pair-run-in-Compare.result c.requires c.in-Compare.ensures.told c.part.ensures.list c.arrive-pair-run-in-Compare.ensures;
+          c.in-Compare.pair c.arrive_pair-run-in-Compare.result c.requires c.in-Compare.ensures.told c.part.ensures.list c.arrive_pair-run-in-Compare.ensures;
     }
 
 pub hand-requires-in-Equal : goal.hand-requires-in-Equal
