@@ -1,5 +1,5 @@
 -- What a rule does with the cells, by what its frame has.
-use Rattle.std.proofs.Common.{◌≡◌, ℕ, zero, suc, ◌+◌, ◌<◌, ◌≤◌, Bool, true, false, cond, ltb, leb, ◌⊎◌, ◌↔◌, List, [], ◌∷◌, ◌++◌, length, get_or, take, drop, Some, None, Decides, Option, sym, refl, ap, ◌∙◌, subst, inl, inr, ⊎_elim, append_assoc, arith, length-take, rules, lt-ltb, le-leb}
+use Rattle.std.proofs.Common.{◌≡◌, ℕ, zero, suc, ◌+◌, ◌<◌, ◌≤◌, Bool, true, false, cond, ltb, leb, ◌⊎◌, ◌↔◌, List, [], ◌∷◌, ◌++◌, length, get_or, take, drop, Some, None, Decides, Option, sym, refl, ap, ◌∙◌, inl, inr, ⊎_elim, append_assoc, arith, length-take, rules, lt-ltb, le-leb}
 use Rattle.std.proofs.lemmas.List.{length-take-le, take_at, take_more}
 use Rattle.std.proofs.lemmas.Slice.Eq.{compares_Decides}
 use Rattle.battery.specs.declared.Ty.{Ty}
@@ -13,14 +13,12 @@ use Rattle.battery.specs.Rules.{Setup, gives, stops, pairs, same_bytes}
 use Rattle.cells.specs.Meaning.{values_of}
 use Rattle.cells.specs.declared.values.Values.{Values}
 use Rattle.table.specs.declared.token.Token.TheVariants.{Expr as EXPR}
-use Rattle.table.specs.declared.token.Head.{Head}
 use Rattle.table.specs.declared.token.Head.TheVariants.{Leaf as LEAF, Many as MANY}
 use Rattle.table.specs.declared.token.Leaf.TheVariants.{Text as STR}
 use Rattle.table.specs.declared.token.Many.TheVariants.{Make as MAKE}
 use Rattle.numbering.proofs.Bounds.{limited_at}
 use Rattle.scope.specs.declared.Entry.{Entry}
-use Rattle.program.specs.Stands.{Node}
-use Rattle.program.specs.Views.{tokens_in, text_in, ends_in}
+use Rattle.program.specs.Views.{tokens_in, text_in}
 use Rattle.program.specs.declared.program.Program.{Program}
 use Rattle.frames.specs.declared.data.Wait.{Wait}
 use Rattle.frames.specs.declared.data.Move.{Move}

@@ -1,10 +1,8 @@
 -- A run begins as the machine starts it.
-use Rattle.std.proofs.Common.{◌≡◌, ℕ, zero, suc, ◌+◌, ◌-◌, ◌<◌, ◌≤◌, List, [], ◌∷◌, length, take, drop, Some, None, Option, sym, refl, ap, ◌∙◌, subst, arith}
+use Rattle.std.proofs.Common.{◌≡◌, ℕ, ◌+◌, ◌-◌, ◌≤◌, List, [], length, take, drop, Some, None, Option, refl, ◌∙◌, arith}
 use Rattle.battery.specs.declared.value.Value.{Value}
 use Rattle.battery.specs.Tree.{Fn, at, bind}
 use Rattle.battery.specs.Cell.{Cell}
-use Rattle.battery.specs.Rules.{◌⊢◌}
-use Rattle.machine.specs.Machine.{State, going}
 use Rattle.machine.specs.Claims.{start}
 use Rattle.scope.specs.declared.Entry.{Entry}
 use Rattle.scope.specs.Bound.{scope_of}
@@ -12,12 +10,10 @@ use Rattle.program.specs.Called.{OfFunction}
 use Rattle.program.specs.Views.{tokens_in, text_in, card_in}
 use Rattle.program.specs.declared.program.Program.{Program}
 use Rattle.program.specs.declared.function.Function.{Function}
-use Rattle.frames.specs.declared.data.Job.{Job}
 use Rattle.frames.specs.declared.data.Frame.{Frame}
-use Rattle.frames.specs.declared.data.Stage.{Stage}
 use Rattle.frames.specs.declared.data.Stage.TheVariants.{Going}
-use Rattle.frames.specs.Trees.{expr, Start, setup}
-use Rattle.frames.specs.Views.{scope, stage, JobOk, StageOk}
+use Rattle.frames.specs.Trees.{setup}
+use Rattle.frames.specs.Views.{stage, StageOk}
 use Rattle.engine.specs.Begun.{Takes}
 
 module _ (k : Program) (f : ℕ) (b : Function) (vs : List Value) (es es₀ : List (Entry Value)) (l : List Frame) (cs : List Cell) (most n : ℕ) where

@@ -1,16 +1,16 @@
 -- One round of the newest frame, on lists.
-use Rattle.std.proofs.Common.{◌≡◌, ℕ, zero, suc, ◌+◌, ◌-◌, ◌*◌, ◌<◌, ◌≤◌, Bool, true, false, cond, eqb, leb, List, [], ◌∷◌, ◌++◌, length, get_or, take, drop, set, Some, None, Option, sym, refl, ap, ◌∙◌, subst, add-one, arith, length-set, eq-eqb, ne_eqb, eqb-true, le-leb, leb-false}
+use Rattle.std.proofs.Common.{◌≡◌, ℕ, zero, suc, ◌+◌, ◌-◌, ◌<◌, ◌≤◌, Bool, true, false, cond, eqb, leb, List, [], ◌∷◌, length, take, drop, sym, refl, ap, ◌∙◌, subst, add-one, arith, length-set, eqb-true, le-leb, leb-false}
 use borrow.Author.Tests.{eqb-false, lt-leb}
 use Rattle.std.proofs.lemmas.List.{take_more_set, take-take, drop-take}
 use Rattle.battery.specs.declared.value.Value.{Value}
 use Rattle.battery.specs.declared.value.Value.TheVariants.{Unit as unit_v, Number as number_v, Boolean as boolean_v, Place as place_v}
 use Rattle.battery.specs.declared.outcome.Stop.{Stop}
 use Rattle.battery.specs.declared.outcome.Stop.TheVariants.{Overrun as overrun, TooDeep as too_deep}
-use Rattle.battery.specs.declared.outcome.Outcome.TheVariants.{Value as value, Stop as stop}
-use Rattle.battery.specs.Tree.{Scope, Expr, Exprs, place}
+use Rattle.battery.specs.declared.outcome.Outcome.TheVariants.{Stop as stop}
+use Rattle.battery.specs.Tree.{place}
 use Rattle.battery.specs.Cell.{Cell}
-use Rattle.battery.specs.Rules.{Setup, ◌⊢◌, gives, stops, goes, same}
-use Rattle.machine.specs.Machine.{after, waits, passes, compares, compare, settle, State, going, ended, stuck, arrive, act, parting, resume, begin, step, turn}
+use Rattle.battery.specs.Rules.{Setup, ◌⊢◌, same}
+use Rattle.machine.specs.Machine.{passes, compares, compare, settle, State, going, ended, stuck, arrive, act, resume, begin, step, turn}
 use Rattle.scope.specs.declared.Entry.{Entry}
 use Rattle.scope.specs.Bound.{scope_of}
 use Rattle.program.specs.declared.program.Program.{Program}
@@ -22,18 +22,16 @@ use Rattle.frames.specs.declared.data.Run.{Run}
 use Rattle.frames.specs.declared.data.Pair.{Pair}
 use Rattle.frames.specs.declared.data.Pairs.{Pairs}
 use Rattle.frames.specs.declared.data.Given.{Given}
-use Rattle.frames.specs.declared.data.Given.TheVariants.{Goes as Carried, Done, Halts}
 use Rattle.frames.specs.declared.data.Verdict.{Verdict}
-use Rattle.frames.specs.declared.data.Verdict.TheVariants.{Is, Fields, Unlike}
+use Rattle.frames.specs.declared.data.Verdict.TheVariants.{Fields}
 use Rattle.frames.specs.declared.data.Move.{Move}
 use Rattle.frames.specs.declared.data.Move.TheVariants.{Gives, Stops, Goes, Compares as Pairs_up, Stuck}
 use Rattle.frames.specs.declared.data.Stage.{Stage}
 use Rattle.frames.specs.declared.data.Stage.TheVariants.{Going, Comparing, Gave, Ended, Stuck as Halted}
-use Rattle.frames.specs.declared.data.Part.{Part}
 use Rattle.frames.specs.declared.data.Part.TheVariants.{Next, Whole, Compare, Equal, Nothing}
-use Rattle.frames.specs.Trees.{after_it, expr, exprs, Start, Starts, setup}
-use Rattle.frames.specs.Stacks.{held, newest, more, given, outcome, below, Room}
-use Rattle.frames.specs.Views.{Rounded, next_pair, paired, pairs_of, pair_arrival, verdict, VerdictOk, handed, Handed, window, scope, vals, frame, frames, stage, carry, stepped, part_job, part_of, parted, JobOk, WaitOk, Ok, Carries, StageOk, Agree, move, Kept, Leads, Did, Ready, NextFits, arrival, opening}
+use Rattle.frames.specs.Trees.{expr, Start, Starts, setup}
+use Rattle.frames.specs.Stacks.{held, newest, given, outcome, below, Room}
+use Rattle.frames.specs.Views.{Rounded, next_pair, paired, pairs_of, pair_arrival, verdict, handed, Handed, window, scope, frames, stage, carry, stepped, part_job, part_of, parted, JobOk, WaitOk, Ok, Carries, StageOk, Agree, move, Leads, Did, Ready, NextFits, arrival, opening}
 use Rattle.frames.proofs.Layers.{within, firsts_of_lem}
 
 -- entries that agree below a height make the same scopes there

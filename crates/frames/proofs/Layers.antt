@@ -1,27 +1,24 @@
 -- What stands at a place where an expression begins.
-use Rattle.std.proofs.Common.{◌≡◌, ℕ, zero, suc, ◌+◌, ◌<◌, ◌≤◌, Bool, true, false, List, [], ◌∷◌, length, get_or, take, Some, None, Option, sym, refl, ap, ◌∙◌, subst, add-one, arith}
+use Rattle.std.proofs.Common.{◌≡◌, ℕ, suc, ◌+◌, ◌<◌, ◌≤◌, Some, refl, ap, add-one, arith}
 use Rattle.std.proofs.lemmas.List.{length-take-le}
-use Rattle.battery.specs.declared.Ty.{Ty}
-use Rattle.battery.specs.Tree.{Expr, Exprs, ∅, ◌&◌, place, at}
+use Rattle.battery.specs.Tree.{Exprs, ∅, place, at}
 use Rattle.battery.specs.Rules.{first}
-use Rattle.table.specs.declared.token.Token.{Token}
 use Rattle.table.specs.declared.token.Token.TheVariants.{Expr as EXPR}
 use Rattle.table.specs.declared.token.Head.{Head}
 use Rattle.table.specs.declared.token.Head.TheVariants.{Leaf as LEAF, Pair as PAIR, If as IF, Match as MATCH, Exit as EXIT, Many as MANY}
 use Rattle.table.specs.declared.token.Leaf.{Leaf}
 use Rattle.table.specs.declared.token.Leaf.TheVariants.{Unit as UNIT, Number as NUM, Boolean as BOOL, Text as STR, Local as LOCAL}
-use Rattle.table.specs.declared.token.Pair.{Pair}
 use Rattle.table.specs.declared.token.Pair.TheVariants.{Calc as CALC, Concat as CONCAT, Eq as EQ, Lt as LT, Seq as SEQ, Val as VAL}
 use Rattle.table.specs.declared.token.Many.{Many}
 use Rattle.table.specs.declared.token.Many.TheVariants.{Call as CALL, Make as MAKE}
-use Rattle.grammar.specs.Grammar.{leaf_at, pair_at, many_at}
+use Rattle.grammar.specs.Grammar.{leaf_at, many_at}
 use Rattle.numbering.proofs.Bounds.{limited_at}
-use Rattle.program.specs.Stands.{tree_at, row_at, Row, Node, Headed}
+use Rattle.program.specs.Stands.{row_at, Node, Headed}
 use Rattle.program.specs.Views.{tokens_in, text_in, ends_in}
 use Rattle.program.specs.declared.program.Program.{Program}
 use Rattle.program.proofs.Stands.{headed}
 use Rattle.rules.specs.Places.{head_of}
-use Rattle.frames.specs.Trees.{head_at, first_at, firsts, after_it, expr, exprs, Start, Starts}
+use Rattle.frames.specs.Trees.{head_at, first_at, firsts, expr, exprs, Start, Starts}
 
 module _ (k : Program) where
   -- the head there, and its parts

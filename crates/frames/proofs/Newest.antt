@@ -1,11 +1,11 @@
 -- The newest frames of an array.
-use Rattle.std.proofs.Common.{◌≡◌, ℕ, zero, suc, ◌+◌, ◌-◌, ◌<◌, ◌≤◌, ◌≢◌, List, [], ◌∷◌, length, get_or, set, sym, refl, ap, ◌∙◌, add-one, arith, get_or-set_other, get_or-set_same}
+use Rattle.std.proofs.Common.{◌≡◌, ℕ, zero, suc, ◌+◌, ◌-◌, ◌<◌, ◌≤◌, ◌≢◌, List, ◌∷◌, length, get_or, set, refl, ap, ◌∙◌, add-one, arith, get_or-set_other, get_or-set_same}
 use Rattle.frames.specs.declared.data.Frame.{Frame}
-use Rattle.frames.specs.declared.data.Frame.TheVariants.{Passes, Waits}
+use Rattle.frames.specs.declared.data.Frame.TheVariants.{Passes}
 use Rattle.battery.specs.declared.value.Value.{Value}
 use Rattle.frames.specs.declared.data.Given.{Given}
 use Rattle.frames.specs.declared.data.Given.TheVariants.{Goes, Done, Halts}
-use Rattle.frames.specs.Stacks.{newest, below, taken, with_it, given, outcome, Room}
+use Rattle.frames.specs.Stacks.{newest, taken, with_it, given, outcome, Room}
 
 pub newest_set : (fs : List Frame) (p n : ℕ) (f : Frame) → n ≤ p → newest (set fs p f) n ≡ newest fs n
 newest_set fs p zero f h = refl

@@ -1,5 +1,5 @@
 -- The trees of a program, by place.
-use Rattle.std.specs.Prelude.{ℕ, ◌+◌, List, Some, None, Option, slice_index}
+use Rattle.std.specs.Prelude.{ℕ, ◌+◌, Some, None, Option, slice_index}
 use Rattle.battery.specs.Tree.{Expr, Exprs, at}
 use Rattle.battery.specs.Rules.{Setup, plotter}
 use Rattle.table.specs.declared.token.Head.{Head}

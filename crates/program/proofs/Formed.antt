@@ -1,6 +1,6 @@
 -- The program of an image in the form of a card has that card.
 use Rattle.std.proofs.Common.{◌≡◌, ℕ, List, Some, None, Option, refl, ap, ◌∙◌, ap₂}
-use Rattle.battery.specs.Tree.{Card, ◌▸◌}
+use Rattle.battery.specs.Tree.{◌▸◌}
 use Rattle.image.specs.Bytes.{text_bytes}
 use Rattle.table.specs.declared.token.Token.{Token}
 use Rattle.grammar.specs.Grammar.{card_of}

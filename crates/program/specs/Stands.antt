@@ -1,7 +1,7 @@
 -- What stands at a place of a card's tokens: an expression, several, or arms; and what their parts are.
-use Rattle.std.specs.Prelude.{◌≡◌, ℕ, zero, suc, ◌<◌, List, [], ◌∷◌, length, drop, Some, None, Option, slice_index}
+use Rattle.std.specs.Prelude.{◌≡◌, ℕ, zero, suc, ◌<◌, List, ◌∷◌, length, drop, Some, None, Option, slice_index}
 use Rattle.battery.specs.declared.Ty.{Ty}
-use Rattle.battery.specs.Tree.{Expr, Local, If, Match, Exit, Exprs, ∅, ◌&◌, Arms, no_arm, arm, Fn, at, ◌▸◌}
+use Rattle.battery.specs.Tree.{Expr, Local, If, Match, Exit, Exprs, ∅, ◌&◌, Arms, no_arm, arm, at, ◌▸◌}
 use Rattle.table.specs.declared.token.Token.{Token}
 use Rattle.table.specs.declared.token.Token.TheVariants.{Arm as ARM, Expr as EXPR}
 use Rattle.table.specs.declared.token.Head.{Head}

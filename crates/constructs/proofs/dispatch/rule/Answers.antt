@@ -1,4 +1,4 @@
-use Rattle.std.proofs.Common.{◌≡◌, ℕ, sym, refl, ◌∙◌, arith}
+use Rattle.std.proofs.Common.{◌≡◌, ℕ, refl, arith}
 use Rattle.frames.proofs.Layers.{head_is}
 use Rattle.constructs.proofs.dispatch.rule.Goals as goal
 

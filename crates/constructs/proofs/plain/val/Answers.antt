@@ -1,5 +1,5 @@
 -- The entries below the frame's height stay, and the one at it binds the name.
-use Rattle.std.proofs.Common.{◌≡◌, suc, refl}
+use Rattle.std.proofs.Common.{suc, refl}
 use Rattle.frames.specs.Trees.{expr}
 use Rattle.constructs.proofs.Bindings.{val_did}
 use Rattle.table.specs.declared.token.Head.TheVariants.{Pair as PAIR}

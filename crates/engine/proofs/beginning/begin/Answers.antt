@@ -1,4 +1,4 @@
-use Rattle.std.proofs.Common.{◌≡◌, ◌+◌, ◌≤◌, true, List, length, take, sym, refl, ap, ◌∙◌, subst, arith}
+use Rattle.std.proofs.Common.{◌≡◌, ◌+◌, ◌≤◌, List, length, take, refl, ap, subst, arith}
 use Rattle.battery.specs.declared.value.Value.{Value}
 use Rattle.battery.specs.Tree.{bind}
 use Rattle.cells.specs.Meaning.{values_of}

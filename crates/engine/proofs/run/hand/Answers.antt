@@ -1,4 +1,4 @@
-use Rattle.std.proofs.Common.{◌≡◌, sym, refl, ap, ◌∙◌, arith}
+use Rattle.std.proofs.Common.{refl, arith}
 use Rattle.frames.specs.Stacks.{held}
 use Rattle.engine.proofs.Carries.{length_newest, handing}
 use Rattle.engine.proofs.run.hand.Goals as goal

@@ -1,7 +1,5 @@
-use Rattle.std.proofs.Common.{◌≡◌, [], sym, refl, ap, ◌∙◌, subst, arith}
+use Rattle.std.proofs.Common.{[], refl, ◌∙◌, arith}
 use Rattle.frames.specs.Stacks.{held}
-use Rattle.frames.specs.Views.{StageOk}
-use Rattle.frames.proofs.Layers.{within}
 use Rattle.engine.proofs.Carries.{length_newest, opens_deep, opens, going_small}
 use Rattle.engine.proofs.run.open.Goals as goal
 

@@ -1,11 +1,10 @@
-use Rattle.std.proofs.Common.{◌≡◌, ◌+◌, ◌<◌, ◌∷◌, length, sym, refl, ap, ◌∙◌, subst, arith}
+use Rattle.std.proofs.Common.{◌≡◌, ◌<◌, length, sym, refl, ap, ◌∙◌, subst, arith}
 use Rattle.machine.specs.Machine.{step}
-use Rattle.frames.specs.declared.data.Frame.TheVariants.{Compares}
 use Rattle.frames.specs.declared.data.Verdict.TheVariants.{Is, Fields, Unlike}
 use Rattle.frames.specs.Trees.{setup}
 use Rattle.frames.specs.Stacks.{held}
-use Rattle.frames.specs.Views.{view, carry, Carries}
-use Rattle.engine.proofs.Carries.{length_newest, ok_room, pair_deep, pair_begins, pair_fields, pair_ok}
+use Rattle.frames.specs.Views.{view, Carries}
+use Rattle.engine.proofs.Carries.{length_newest, ok_room, pair_begins, pair_fields, pair_ok}
 use Rattle.engine.proofs.run.open_pair.Goals as goal
 
 pub hand-requires : goal.hand-requires

@@ -1,4 +1,4 @@
-use Rattle.std.proofs.Common.{◌≡◌, ◌+◌, ◌<◌, ◌≤◌, true, ◌∷◌, length, sym, refl, ap, ◌∙◌, subst, arith}
+use Rattle.std.proofs.Common.{◌≡◌, ◌<◌, true, ◌∷◌, length, sym, refl, ap, ◌∙◌, subst, arith}
 use Rattle.frames.specs.declared.data.Frame.TheVariants.{Passes}
 use Rattle.frames.specs.Stacks.{held, below, Room}
 use Rattle.battery.specs.declared.value.Value.TheVariants.{Boolean as boolean_v}

@@ -1,5 +1,5 @@
-use Rattle.std.proofs.Common.{◌≡◌, ◌-◌, ◌<◌, ◌∷◌, get_or, sym, refl, ap, ◌∙◌, arith}
-use Rattle.frames.specs.declared.data.Frame.TheVariants.{Passes, Waits}
+use Rattle.std.proofs.Common.{◌-◌, get_or, refl, arith}
+use Rattle.frames.specs.declared.data.Frame.TheVariants.{Passes}
 use Rattle.frames.specs.Stacks.{held, given, outcome}
 use Rattle.frames.proofs.Newest.{top_is, goes_here, halts_here, passes_here}
 use Rattle.frames.proofs.data.Stack.give.Goals as goal

@@ -1,7 +1,5 @@
-use Rattle.std.proofs.Common.{◌≡◌, ◌-◌, ◌<◌, true, false, eqb, ◌∷◌, get_or, sym, refl, ap, ◌∙◌, arith, eq-eqb, ne_eqb}
+use Rattle.std.proofs.Common.{◌≡◌, ◌-◌, ◌<◌, true, false, eqb, get_or, ◌∙◌, arith, eq-eqb, ne_eqb}
 use Rattle.frames.specs.declared.data.Frame.TheVariants.{Passes, Waits, Compares}
-use Rattle.frames.specs.Stacks.{newest}
-use Rattle.frames.specs.Views.{part_of, parted, NextFits}
 use Rattle.frames.proofs.Newest.{top_is, top_set}
 use Rattle.frames.proofs.data.Stack.part.Goals as goal
 

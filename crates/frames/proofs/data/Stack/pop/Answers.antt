@@ -1,4 +1,4 @@
-use Rattle.std.proofs.Common.{sym, refl, ap, ◌∙◌, arith}
+use Rattle.std.proofs.Common.{sym, refl, ap, arith}
 use Rattle.frames.specs.Stacks.{below}
 use Rattle.frames.proofs.Newest.{top_is}
 use Rattle.frames.proofs.data.Stack.pop.Goals as goal
