@@ -6,7 +6,7 @@ ghost use Rattle.cells.specs.Meaning.{meaning, values_of};
 ghost use Rattle.cells.specs.declared.cell.Cell.TheVariants.{Enum};
 ghost use Rattle.frames.specs.Views.{verdict, VerdictOk, pairs_of};
 
-use crate::cells::cell_at;
+use crate::lookups::cell_at;
 use battery::Value;
 use cells::{Cell, EnumValue, Values};
 use frames::{Pair, Pairs, Verdict};

@@ -3,10 +3,10 @@
 // What the rule of each construct does, once its first parts have their values.
 mod binding;
 mod call;
-mod cells;
 mod comparison;
 mod dispatch;
 mod leaf;
+mod lookups;
 mod make;
 mod matching;
 mod numbers;

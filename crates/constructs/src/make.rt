@@ -7,7 +7,7 @@ ghost use Rattle.cells.specs.Meaning.{values_of};
 ghost use Rattle.frames.specs.Trees.{head_at};
 ghost use Rattle.frames.specs.Views.{Ready, Did, vals};
 
-use crate::cells::{placed, text_at};
+use crate::lookups::{placed, text_at};
 use crate::values::only;
 use battery::Stop;
 use cells::{Cell, EnumValue, Values};

@@ -8,7 +8,7 @@ ghost use Rattle.frames.specs.Views.{Ready, Did};
 ghost use Rattle.constructs.specs.Armed.{OfArm};
 
 use crate::binding::bind_above;
-use crate::cells::enum_at;
+use crate::lookups::enum_at;
 use crate::values::only;
 use battery::Value;
 use frames::{Job, Move, Wait};

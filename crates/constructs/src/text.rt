@@ -9,7 +9,7 @@ ghost use Rattle.program.specs.Views.{text_in};
 ghost use Rattle.frames.specs.Trees.{head_at};
 ghost use Rattle.frames.specs.Views.{Ready, Did};
 
-use crate::cells::{placed, text_at};
+use crate::lookups::{placed, text_at};
 use crate::values::both;
 use battery::Stop;
 use cells::{Cell, Text};

@@ -1,6 +1,6 @@
 #![tactic(auto)]
 
 #[cfg(test)]
-mod card;
+mod cards;
 #[cfg(test)]
 mod tests;

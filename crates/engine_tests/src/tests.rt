@@ -1,6 +1,6 @@
 ghost use Rattle.frames.specs.Views.{Sound};
 
-use crate::card::every;
+use crate::cards::every;
 use battery::{Stop, Value};
 use card::worked_card;
 use cells::{Cell, EnumValue, Text, Values};

@@ -1,7 +1,7 @@
 use Rattle.std.proofs.Common.{Some, ap}
 use Rattle.cells.specs.Meaning.{meaning}
 use Rattle.constructs.proofs.Celled.{put_some, put_none}
-use Rattle.constructs.proofs.cells.placed.Goals as goal
+use Rattle.constructs.proofs.lookups.placed.Goals as goal
 
 pub returns-in-Some : goal.returns-in-Some
 returns-in-Some g c =
