@@ -1041,7 +1041,7 @@ QUOTED = re.compile(r'b?"(?:[^"\\]|\\.)*"')
 
 
 def respell(text, table):
-    """Every word that the table has. After a dot only where a module stands before it, or a field of ours does."""
+    """Every word that the table has."""
     def one(m):
         word = m.group(0)
         if word not in table:

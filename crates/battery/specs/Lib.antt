@@ -2,6 +2,7 @@ pub mod Tree
 pub mod Typing
 pub mod Cell
 pub mod Rules
+pub mod Same
 pub mod Values
 pub mod Claims
 pub mod Published

@@ -14,7 +14,7 @@ use Rattle.card.specs.declared.fault.Counts.{Counts}
 use Rattle.card.specs.declared.fault.Fault.{Fault}
 use Rattle.card.specs.declared.fault.Fault.TheVariants.{Image, Table, Types}
 use Rattle.card.specs.declared.fault.TableFault.TheVariants.{Unknown, Misplaced as misplaced, Misnumbered}
-use Rattle.card.specs.declared.fault.Layer.TheVariants.{Types as by_types_lem}
+use Rattle.card.specs.declared.fault.Layer.TheVariants.{Types as types_layer}
 use Rattle.rules.specs.declared.fault.Broken.{Broken}
 use Rattle.rules.specs.declared.fault.Broken.TheVariants.{Unbound, Mistyped, Count, Arms}
 use Rattle.rules.specs.Typed.{type_number}
@@ -50,7 +50,7 @@ by_place_lem {image} {g = g} (cannot_follow {ws = ws} h k m) e p q = (ws, k, sub
 by_place_lem (wrong_number h k s m) e p q = absurd (omega arith)
 by_place_lem {image} (wrong_typing {C = C} {n = n} {p = i} f x) e p q = let t = typing_faults image C f n i ((first_broken image C f n i).1 x) in absurd (omega arith)
 
-type_layer : (b : Broken) → by_types_lem ≡ layer_by (type_number b)
+type_layer : (b : Broken) → types_layer ≡ layer_by (type_number b)
 type_layer Unbound = refl
 type_layer Mistyped = refl
 type_layer Count = refl

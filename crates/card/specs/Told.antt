@@ -7,7 +7,7 @@ use Rattle.card.specs.declared.fault.TableFault.TheVariants.{Unknown, Misplaced,
 use Rattle.card.specs.declared.fault.Fault.{Fault}
 use Rattle.card.specs.declared.fault.Fault.TheVariants.{Image, Table, Types}
 use Rattle.card.specs.declared.fault.Layer.{Layer}
-use Rattle.card.specs.declared.fault.Layer.TheVariants.{Image as by_image, Table as by_table_lem, Types as by_types_lem}
+use Rattle.card.specs.declared.fault.Layer.TheVariants.{Image as image_layer, Table as table_layer, Types as types_layer}
 
 -- every fault has a number of its own: 2 to 6 of the image, 7 to 9 of the table, 10 to 13 of the types
 abbrev pub number_of : Fault → ℕ
@@ -34,13 +34,13 @@ group_of (Table (Misnumbered p)) = None
 group_of (Types f) = None
 
 abbrev pub layer_of : Fault → Layer
-layer_of (Image f) = by_image
-layer_of (Table f) = by_table_lem
-layer_of (Types f) = by_types_lem
+layer_of (Image f) = image_layer
+layer_of (Table f) = table_layer
+layer_of (Types f) = types_layer
 
 -- the layer that a number belongs to
 abbrev pub layer_by : ℕ → Layer
-layer_by n = cond (nat_le n 6) by_image (cond (nat_le n 9) by_table_lem by_types_lem)
+layer_by n = cond (nat_le n 6) image_layer (cond (nat_le n 9) table_layer types_layer)
 
 abbrev pub told : Result Counts Fault → Verdict
 told (Ok c) = accepted c.enums c.functions

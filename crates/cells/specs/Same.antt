@@ -1,22 +1,12 @@
 -- What `==` answers: true of two cells exactly where they mean the same, and so of two texts and of two lists of values.
-use Rattle.std.specs.Prelude.{Bool, true, false, ◌&&◌, ◌==◌, bytes_eq}
-use Rattle.std.specs.Ordering.{int_eq}
+use Rattle.std.specs.Prelude.{Bool, false, ◌&&◌, ◌==◌, bytes_eq}
 use Rattle.std.specs.Cmp.Lexicographic.{pointwise}
-use Rattle.battery.specs.declared.value.Value.{Value}
-use Rattle.battery.specs.declared.value.Value.TheVariants.{Unit as unit_v, Number as number_v, Boolean as boolean_v, Place as place_v}
-use Rattle.battery.specs.Rules.{same_bool}
+use Rattle.battery.specs.Same.{same_value}
 use Rattle.battery.specs.Cell as rules
 use Rattle.cells.specs.Meaning.{text_of, values_of, meaning}
 use Rattle.cells.specs.declared.text.Text.{Text}
 use Rattle.cells.specs.declared.values.Values.{Values}
 use Rattle.cells.specs.declared.cell.Cell.{Cell}
-
-abbrev pub same_value : Value → Value → Bool
-same_value unit_v unit_v = true
-same_value (number_v m) (number_v n) = int_eq m n
-same_value (boolean_v a) (boolean_v b) = same_bool a b
-same_value (place_v i) (place_v j) = i == j
-same_value v w = false
 
 abbrev pub same_text : Text → Text → Bool
 same_text a b = bytes_eq (text_of a) (text_of b)

@@ -22,7 +22,7 @@ use Rattle.program.specs.Views.{tokens_in, text_in}
 use Rattle.program.specs.declared.program.Program.{Program}
 use Rattle.frames.specs.declared.data.Wait.{Wait}
 use Rattle.frames.specs.declared.data.Move.{Move}
-use Rattle.frames.specs.declared.data.Move.TheVariants.{Gives, Stops, Goes, Compares as Pairs_up, Stuck}
+use Rattle.frames.specs.declared.data.Move.TheVariants.{Gives, Stops, Goes, Compares as PairsUp, Stuck}
 use Rattle.frames.specs.Trees.{Start, head_at, setup, expr}
 use Rattle.frames.specs.Views.{rest, scope, vals, move, Kept, Leads, Did}
 use Rattle.frames.proofs.Layers.{standing, head_is}
@@ -96,7 +96,7 @@ put_leads k w es cs p o (Gives v) e = tt
 put_leads k w es cs p o (Stops x) e = tt
 put_leads k w es cs p None (Goes j) e = let z : ◌≡◌ {A = ℕ} 0 1 = cc in absurd (omega arith)
 put_leads k w es cs p (Some x) (Goes j) e = let z : ◌≡◌ {A = ℕ} 0 1 = cc in absurd (omega arith)
-put_leads k w es cs p o (Pairs_up q) e = tt
+put_leads k w es cs p o (PairsUp q) e = tt
 put_leads k w es cs p o Stuck e = tt
 
 pub put_did : (k : Program) (w : Wait) (most p : ℕ) (c : Cell) (cs cs' : List Cell) (r : Move)

@@ -25,7 +25,7 @@ use Rattle.frames.specs.declared.data.Given.{Given}
 use Rattle.frames.specs.declared.data.Verdict.{Verdict}
 use Rattle.frames.specs.declared.data.Verdict.TheVariants.{Fields}
 use Rattle.frames.specs.declared.data.Move.{Move}
-use Rattle.frames.specs.declared.data.Move.TheVariants.{Gives, Stops, Goes, Compares as Pairs_up, Stuck}
+use Rattle.frames.specs.declared.data.Move.TheVariants.{Gives, Stops, Goes, Compares as PairsUp, Stuck}
 use Rattle.frames.specs.declared.data.Stage.{Stage}
 use Rattle.frames.specs.declared.data.Stage.TheVariants.{Going, Comparing, Gave, Ended, Stuck as Halted}
 use Rattle.frames.specs.declared.data.Part.TheVariants.{Next, Whole, Compare, Equal, Nothing}
@@ -380,12 +380,12 @@ module _ (k : Program) where
       record { same = x.0; height = o.1.0; rest = o.1.1; long = refl; does = λ es u most cs. rw n }
 
   -- a rule that compares
-  pub pairs_done : (es es' : List (Entry Value)) (l l' : List Frame) (w : Wait) (u most : ℕ) (cs cs' : List Cell) (p : Pair) (s : Stage) → WholeFrame l w → Did k most w es es' cs cs' (Pairs_up p)
+  pub pairs_done : (es es' : List (Entry Value)) (l l' : List Frame) (w : Wait) (u most : ℕ) (cs cs' : List Cell) (p : Pair) (s : Stage) → WholeFrame l w → Did k most w es es' cs cs' (PairsUp p)
       → l' ≡ Passes ∷ below l → s ≡ pair_arrival u p → (stage k es' l' u cs' s ≡ carry k (setup k most) es l u cs) × StageOk k l' u s
   pairs_done es es' l l' w u most cs cs' p s f d q e =
       let a = pair_arrives (leb 1000000 u) es' (Passes ∷ below l) w.job.height u cs' p refl f.rest in
       let c = d.kept in
-      rw (q, e) ((a.0 ∙ rw c (sym (carried es es' l w u most cs cs' (Pairs_up p) f d))), a.1)
+      rw (q, e) ((a.0 ∙ rw c (sym (carried es es' l w u most cs cs' (PairsUp p) f d))), a.1)
 
   -- a comparison that is opened
   pub pair_deep : (es : List (Entry Value)) (l : List Frame) (u most : ℕ) (cs : List Cell) (p : Pair) (s : Stage) → s ≡ Comparing p → length l ≡ 256

@@ -7,7 +7,7 @@ use cells::{Cell, EnumValue, Text, Values};
 use engine::{advance, begin, idle};
 use frames::{Run, Stage};
 use program::Program;
-use std::process::Abort;
+use std::fmt::Debug;
 use std::test::Fail;
 use stores::{Pair, Plain, Store};
 
@@ -59,12 +59,28 @@ fn turns<S: Store>(program: &Program, run: &mut Run<S>, count: u32, units: u16)
     }
 }
 
-fn same(rt: &impl Abort, a: &Stands, b: &Stands) {
-    assert_eq!(rt; a.ending, b.ending);
-    assert_eq!(rt; a.record, b.record);
-    assert!(rt; a.value == b.value);
-    assert_eq!(rt; a.units, b.units);
-    assert_eq!(rt; a.cells, b.cells);
+// Fails a test from inside a helper.
+fn check(holds: bool) -> Result<(), Fail> {
+    if holds {
+        Ok(())
+    } else {
+        Err(Fail::new("does not hold"))
+    }
+}
+
+fn check_eq<T: PartialEq + Debug + Drop>(one: T, other: T) -> Result<(), Fail> {
+    if one == other {
+        return Ok(());
+    }
+    Err(Fail::new(format_args!("{one:?} is not {other:?}")))
+}
+
+fn same(a: &Stands, b: &Stands) -> Result<(), Fail> {
+    check_eq(a.ending, b.ending)?;
+    check_eq(a.record, b.record)?;
+    check(a.value == b.value)?;
+    check_eq(a.units, b.units)?;
+    check_eq(a.cells, b.cells)
 }
 
 // A function with its arguments, the text that the store holds before, and how the run ends.
@@ -95,7 +111,6 @@ fn prepared<S: Store>(mut store: S, call: &Call) -> S {
 
 // A run over a store in turns of so many units, held against what is expected.
 fn runs<S: Store + Drop>(
-    rt: &impl Abort,
     program: &Program,
     store: S,
     call: &Call,
@@ -107,20 +122,19 @@ fn runs<S: Store + Drop>(
         return Err(Fail::new("not begun"));
     }
     turns(program, &mut run, count, units);
-    same(rt, &standing(&run), &call.ends);
-    Ok(())
+    same(&standing(&run), &call.ends)
 }
 
 // Over a plain store and a pair, at once and one unit at a time.
-fn holds(rt: &impl Abort, program: &Program, call: &Call) -> Result<(), Fail> {
+fn holds(program: &Program, call: &Call) -> Result<(), Fail> {
     let mut slots = [blank(); 9];
-    runs(rt, program, Plain::new(&mut slots), call, 16, 65535)?;
-    runs(rt, program, Plain::new(&mut slots), call, 1_000_001, 1)?;
+    runs(program, Plain::new(&mut slots), call, 16, 65535)?;
+    runs(program, Plain::new(&mut slots), call, 1_000_001, 1)?;
     let (mut low, mut high) = ([blank(); 1], [blank(); 8]);
     let pair = Pair::new(Plain::new(&mut low), Plain::new(&mut high));
-    runs(rt, program, pair, call, 16, 65535)?;
+    runs(program, pair, call, 16, 65535)?;
     let pair = Pair::new(Plain::new(&mut low), Plain::new(&mut high));
-    runs(rt, program, pair, call, 1_000_001, 1)
+    runs(program, pair, call, 1_000_001, 1)
 }
 
 fn values(number: Option<i32>, place: Option<u16>) -> Values {
@@ -193,15 +207,13 @@ fn program(image: &[u8]) -> Result<Program, Fail> {
 
 // Card K on 30000 and on 50000.
 #[test]
-fn worked_card_runs(rt: HostRuntime) -> Result<(), Fail> {
+fn worked_card_runs() -> Result<(), Fail> {
     let k = program(&worked_card())?;
     holds(
-        &rt,
         &k,
         &on_text(0, Some(30000), b"Spit", gave(Value::Place(1), 6, 2)),
     )?;
     holds(
-        &rt,
         &k,
         &on_text(0, Some(50000), b"Spit", gave(Value::Place(1), 5, 2)),
     )
@@ -212,19 +224,16 @@ fn worked_card_runs(rt: HostRuntime) -> Result<(), Fail> {
 fn every_ending(rt: HostRuntime) -> Result<(), Fail> {
     let card = program(&every(rt.alloc())?)?;
     holds(
-        &rt,
         &card,
         &on_text(0, Some(49999), b"", gave(Value::Place(1), 6, 2)),
     )?;
-    holds(&rt, &card, &on_nothing(1, ended(2, 22, 3, 0)))?;
-    holds(&rt, &card, &on_nothing(2, ended(3, 28, 3, 0)))?;
+    holds(&card, &on_nothing(1, ended(2, 22, 3, 0)))?;
+    holds(&card, &on_nothing(2, ended(3, 28, 3, 0)))?;
     holds(
-        &rt,
         &card,
         &on_text(3, None, b"Muckle Flugg", gave(Value::Place(1), 3, 2)),
     )?;
     holds(
-        &rt,
         &card,
         &on_text(3, None, b"Muckle Flugga", ended(4, 35, 3, 1)),
     )?;
@@ -235,43 +244,39 @@ fn every_ending(rt: HostRuntime) -> Result<(), Fail> {
         units: 2,
         cells: 1,
     };
-    holds(&rt, &card, &on_nothing(4, exit))?;
-    holds(&rt, &card, &on_nothing(5, ended(6, 47, 257, 0)))
+    holds(&card, &on_nothing(4, exit))?;
+    holds(&card, &on_nothing(5, ended(6, 47, 257, 0)))
 }
 
 // Calls in calls, and an overrun in the midst of them; a value made, taken apart and compared.
 #[test]
 fn long_runs(rt: HostRuntime) -> Result<(), Fail> {
     let card = program(&every(rt.alloc())?)?;
-    holds(&rt, &card, &on_number(6, 3, gave(Value::Number(8), 131, 0)))?;
-    holds(&rt, &card, &on_number(6, 16, ended(7, 53, 1_000_000, 0)))?;
-    holds(&rt, &card, &on_number(7, 5, gave(Value::Number(1), 21, 5)))?;
-    holds(
-        &rt,
-        &card,
-        &on_number(7, -5, gave(Value::Number(-1), 21, 5)),
-    )
+    holds(&card, &on_number(6, 3, gave(Value::Number(8), 131, 0)))?;
+    holds(&card, &on_number(6, 16, ended(7, 53, 1_000_000, 0)))?;
+    holds(&card, &on_number(7, 5, gave(Value::Number(1), 21, 5)))?;
+    holds(&card, &on_number(7, -5, gave(Value::Number(-1), 21, 5)))
 }
 
 // A store of one cell is full before the value is made.
 #[test]
-fn full_store(rt: HostRuntime) -> Result<(), Fail> {
+fn full_store() -> Result<(), Fail> {
     let k = program(&worked_card())?;
     let mut slots = [blank(); 1];
     let call = on_text(0, Some(30000), b"Spit", ended(5, 13, 6, 1));
-    runs(&rt, &k, Plain::new(&mut slots), &call, 1, 6)?;
-    runs(&rt, &k, Plain::new(&mut slots), &call, 6, 1)
+    runs(&k, Plain::new(&mut slots), &call, 1, 6)?;
+    runs(&k, Plain::new(&mut slots), &call, 6, 1)
 }
 
 // A turn's last unit is no overrun, and no unit moves nothing.
 #[test]
-fn pauses(rt: HostRuntime) -> Result<(), Fail> {
+fn pauses() -> Result<(), Fail> {
     let k = program(&worked_card())?;
     let mut slots = [blank(); 9];
     let call = on_text(0, Some(30000), b"Spit", ended(9, 0, 4, 1));
-    runs(&rt, &k, Plain::new(&mut slots), &call, 1, 4)?;
+    runs(&k, Plain::new(&mut slots), &call, 1, 4)?;
     let call = on_text(0, Some(30000), b"Spit", ended(9, 0, 0, 1));
-    runs(&rt, &k, Plain::new(&mut slots), &call, 3, 0)
+    runs(&k, Plain::new(&mut slots), &call, 3, 0)
 }
 
 // No such function, and another count of arguments: nothing begins.

@@ -24,7 +24,7 @@ use Rattle.frames.specs.declared.data.Verdict.TheVariants.{Is, Fields, Unlike}
 use Rattle.frames.specs.declared.data.Given.{Given}
 use Rattle.frames.specs.declared.data.Given.TheVariants.{Goes as Carried, Done, Halts}
 use Rattle.frames.specs.declared.data.Move.{Move}
-use Rattle.frames.specs.declared.data.Move.TheVariants.{Gives, Stops, Goes, Compares as Pairs_up, Stuck}
+use Rattle.frames.specs.declared.data.Move.TheVariants.{Gives, Stops, Goes, Compares as PairsUp, Stuck}
 use Rattle.frames.specs.declared.data.Stage.{Stage}
 use Rattle.frames.specs.declared.data.Stage.TheVariants.{Going, Comparing, Gave, Ended, Stuck as Halted}
 use Rattle.frames.specs.declared.data.Part.{Part}
@@ -149,21 +149,21 @@ abbrev pub move : Program → List (Entry Value) → List Cell → Move → Opti
 move k es cs (Gives v) = Some (gives v cs)
 move k es cs (Stops x) = Some (stops x)
 move k es cs (Goes j) = Some (goes (scope es j ⊢ expr k j.at))
-move k es cs (Pairs_up p) = Some (goes (same p.at p.one p.other))
+move k es cs (PairsUp p) = Some (goes (same p.at p.one p.other))
 move k es cs Stuck = None
 
 abbrev pub Kept : List Cell → List Cell → Move → Type 0
 Kept cs cs' (Gives v) = Unit {0}
 Kept cs cs' (Stops x) = cs' ≡ cs
 Kept cs cs' (Goes j) = cs' ≡ cs
-Kept cs cs' (Pairs_up p) = cs' ≡ cs
+Kept cs cs' (PairsUp p) = cs' ≡ cs
 Kept cs cs' Stuck = cs' ≡ cs
 
 abbrev pub Leads : Program → Wait → Move → Type 0
 Leads k w (Gives v) = Unit {0}
 Leads k w (Stops x) = Unit {0}
 Leads k w (Goes j) = Start k j.at × (j.base ≤ j.height) × (w.job.height ≤ j.height) × (j.height ≤ w.job.height + 4)
-Leads k w (Pairs_up p) = Unit {0}
+Leads k w (PairsUp p) = Unit {0}
 Leads k w Stuck = Unit {0}
 
 pub record Did (k : Program) (most : ℕ) (w : Wait) (es es' : List (Entry Value)) (cs cs' : List Cell) (r : Move) : Type 0 where

@@ -1,4 +1,4 @@
-ghost use Rattle.std.specs.Prelude.{◌≡◌, ℕ, ◌+◌, ◌-◌, ◌<◌, ◌≤◌, Bool, true, false, cond, List, [], ◌∷◌, length};
+ghost use Rattle.std.specs.Prelude.{◌≡◌, ℕ, ◌+◌, ◌-◌, ◌<◌, ◌≤◌, Bool, true, false, List, [], ◌∷◌, length};
 ghost use Rattle.frames.specs.Stacks.{held, given, outcome, below, more, Room, Roomy, taken, with_it};
 ghost use Rattle.frames.specs.Views.{stepped, part_of, parted, NextFits, next_pair, paired};
 ghost use Rattle.frames.specs.declared.data.Frame.TheVariants.{Passes};

@@ -113,7 +113,7 @@ fn cases(tokens: &[Token], at: usize, enumeration: usize, some: bool) -> Result<
 }
 
 // The place behind n expressions.
-#[cycle(arms_expression_expressions)]
+#[cycle(expressions_and_arms)]
 fn expressions(
     tokens: &[Token],
     at: usize,
@@ -132,7 +132,7 @@ fn expressions(
 }
 
 // The place behind an expression and its parts.
-#[cycle(arms_expression_expressions)]
+#[cycle(expressions_and_arms)]
 fn expression(tokens: &[Token], at: usize, group: Option<usize>) -> Result<usize, Misplaced>
     requires { at ≤ length tokens.now }
     ensures ends { IfOk result (λ m. (at < m) × (m ≤ length tokens.now)) }
@@ -155,7 +155,7 @@ fn expression(tokens: &[Token], at: usize, group: Option<usize>) -> Result<usize
 }
 
 // The place behind the arms of a MATCH, one or more, and their CLOSE.
-#[cycle(arms_expression_expressions)]
+#[cycle(expressions_and_arms)]
 fn arms(tokens: &[Token], at: usize, matching: usize, some: bool) -> Result<usize, Misplaced>
     requires { at ≤ length tokens.now }
     ensures ends { IfOk result (λ m. (at < m) × (m ≤ length tokens.now)) }

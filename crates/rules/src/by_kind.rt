@@ -88,9 +88,9 @@ pub(crate) fn declared_rule(
     at: usize,
     parts: &[Ty],
     declared: &[Ty],
-    res: Ty,
+    returned: Ty,
 ) -> Result<Ty, TypeFault>
-    ensures { checked_by result ≡ declared_rule at parts.now declared.now res }
+    ensures { checked_by result ≡ declared_rule at parts.now declared.now returned }
 {
     if parts.len() != declared.len() {
         return Err(TypeFault {
@@ -104,7 +104,7 @@ pub(crate) fn declared_rule(
             record: at,
         });
     }
-    Ok(res)
+    Ok(returned)
 }
 
 pub fn leaf_rule(at: usize, leaf: Leaf, entries: &[Entry<Ty>]) -> Result<Ty, TypeFault>

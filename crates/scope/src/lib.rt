@@ -1,6 +1,6 @@
 #![tactic(auto)]
 
-ghost use Rattle.std.specs.Prelude.{◌≡◌, ◌+◌, true, false, ◌&&◌, ltb, ◌∷◌, length, take, drop, set, if◌then◌else◌, nat_le, nat_lt};
+ghost use Rattle.std.specs.Prelude.{◌≡◌, ◌+◌, true, false, ◌&&◌, ◌∷◌, length, take, drop, slice_set, if◌then◌else◌, nat_le, nat_lt};
 ghost use Rattle.battery.specs.Tree.{find, bind as bound};
 ghost use Rattle.scope.specs.Bound.{scope_of};
 
@@ -27,7 +27,7 @@ pub fn newest<T: Copy>(entries: &[Entry<T>], name: u32) -> Option<T>
 // Binds one name more behind the first `len` entries; where there is no room, nothing changes.
 pub fn bind<T: Copy>(entries: &mut [Entry<T>], len: usize, name: u32, value: T) -> bool
     ensures told { result ≡ nat_lt len (length entries.old) }
-    ensures list { entries.new ≡ (if ltb len (length entries.old) then set entries.old len (record { name = name; value = value }) else entries.old) }
+    ensures list { entries.new ≡ (if nat_lt len (length entries.old) then slice_set entries.old len (record { name = name; value = value }) else entries.old) }
     ensures below { take len entries.new ≡ take len entries.old }
     ensures scope { result ≡ true → scope_of (take (len + 1) entries.new) ≡ (name, value) ∷ scope_of (take len entries.old) }
 {

@@ -1,8 +1,24 @@
 use battery::Value;
 use cells::{Cell, EnumValue, Text, Values};
-use std::process::Abort;
+use std::fmt::Debug;
 use std::test::Fail;
 use stores::{Pair, Plain, Store};
+
+// Fails a test from inside a helper.
+fn check(holds: bool) -> Result<(), Fail> {
+    if holds {
+        Ok(())
+    } else {
+        Err(Fail::new("does not hold"))
+    }
+}
+
+fn check_eq<T: PartialEq + Debug + Drop>(one: T, other: T) -> Result<(), Fail> {
+    if one == other {
+        return Ok(());
+    }
+    Err(Fail::new(format_args!("{one:?} is not {other:?}")))
+}
 
 fn text(bytes: &[u8]) -> Result<Cell, Fail> {
     match Text::of(bytes) {
@@ -19,14 +35,14 @@ fn enum_value(of: u16, case: u8, field: Value) -> Cell {
 
 // Puts the cell until the store refuses it; answers how often it was taken, each time at the next
 // place.
-fn filled<S: Store>(rt: &impl Abort, store: &mut S, cell: Cell) -> Result<u16, Fail> {
+fn filled<S: Store>(store: &mut S, cell: Cell) -> Result<u16, Fail> {
     for place in 0..65535u16 {
         match store.put(cell) {
-            Some(at) => assert_eq!(rt; at, place),
+            Some(at) => check_eq(at, place)?,
             None => return Ok(place),
         }
     }
-    assert_eq!(rt; store.put(cell), None);
+    check_eq(store.put(cell), None)?;
     Ok(65535)
 }
 
@@ -74,41 +90,39 @@ fn four_fields(rt: HostRuntime) -> Result<(), Fail> {
 
 // A store of this most takes so many cells and no more, each at the next place; emptied, as many
 // again.
-fn filled_twice<S: Store>(rt: &impl Abort, store: &mut S, most: u16) -> Result<(), Fail> {
-    assert_eq!(rt; store.most(), most);
-    assert_eq!(rt; filled(rt, store, text(b"a")?)?, most);
-    assert_eq!(rt; store.len(), most);
-    assert!(rt; store.get(most).is_none());
+fn filled_twice<S: Store>(store: &mut S, most: u16) -> Result<(), Fail> {
+    check_eq(store.most(), most)?;
+    check_eq(filled(store, text(b"a")?)?, most)?;
+    check_eq(store.len(), most)?;
+    check(store.get(most).is_none())?;
     store.empty();
-    assert_eq!(rt; store.len(), 0);
-    assert!(rt; store.get(0).is_none());
-    assert_eq!(rt; filled(rt, store, text(b"b")?)?, most);
-    Ok(())
+    check_eq(store.len(), 0)?;
+    check(store.get(0).is_none())?;
+    check_eq(filled(store, text(b"b")?)?, most)
 }
 
 // Three cells, of which each is found again where it was put.
-fn kept_apart<S: Store>(rt: &impl Abort, store: &mut S) -> Result<(), Fail> {
-    assert!(rt; store.get(0).is_none());
-    assert_eq!(rt; store.put(text(b"x")?), Some(0));
-    assert_eq!(rt; store.put(text(b"y")?), Some(1));
-    assert_eq!(rt; store.put(text(b"z")?), Some(2));
-    assert_eq!(rt; store.put(text(b"w")?), None);
-    assert!(rt; holds(store, 0, text(b"x")?));
-    assert!(rt; holds(store, 1, text(b"y")?));
-    assert!(rt; holds(store, 2, text(b"z")?));
-    Ok(())
+fn kept_apart<S: Store>(store: &mut S) -> Result<(), Fail> {
+    check(store.get(0).is_none())?;
+    check_eq(store.put(text(b"x")?), Some(0))?;
+    check_eq(store.put(text(b"y")?), Some(1))?;
+    check_eq(store.put(text(b"z")?), Some(2))?;
+    check_eq(store.put(text(b"w")?), None)?;
+    check(holds(store, 0, text(b"x")?))?;
+    check(holds(store, 1, text(b"y")?))?;
+    check(holds(store, 2, text(b"z")?))
 }
 
 #[test]
-fn no_cell(rt: HostRuntime) -> Result<(), Fail> {
+fn no_cell() -> Result<(), Fail> {
     let mut slots = [text(b"")?; 0];
-    filled_twice(&rt, &mut Plain::new(&mut slots), 0)
+    filled_twice(&mut Plain::new(&mut slots), 0)
 }
 
 #[test]
 fn most_of_a_long_run(rt: HostRuntime) -> Result<(), Fail> {
     let mut run = vec![in rt.alloc(); text(b"")?; 65540]?;
-    filled_twice(&rt, &mut Plain::new(run.as_mut_slice()), 65535)
+    filled_twice(&mut Plain::new(run.as_mut_slice()), 65535)
 }
 
 #[test]
@@ -117,7 +131,6 @@ fn most_of_a_long_pair(rt: HostRuntime) -> Result<(), Fail> {
     let mut high = vec![in rt.alloc(); text(b"")?; 40000]?;
     let first = Plain::new(low.as_mut_slice());
     filled_twice(
-        &rt,
         &mut Pair::new(first, Plain::new(high.as_mut_slice())),
         65535,
     )
@@ -132,5 +145,5 @@ fn three_levels(rt: HostRuntime) -> Result<(), Fail> {
     assert_eq!(rt; lowest.put(text(b"old")?), Some(0));
     let inner = Pair::new(lowest, Plain::new(&mut b));
     let upper = Pair::new(inner, Plain::new(&mut c));
-    kept_apart(&rt, &mut Pair::new(Plain::new(&mut d), upper))
+    kept_apart(&mut Pair::new(Plain::new(&mut d), upper))
 }

@@ -27,7 +27,7 @@ fn fault(broken: Broken, record: usize) -> TypeFault
 
 // The type of the expression at a place, and the place behind it. Names are bound behind the first `bound` entries,
 // which stay as they are: four for each record to come are room enough.
-#[cycle(arm_arms_choice_exit_expression_parts_plain_val)]
+#[cycle(expressions_and_arms)]
 pub(crate) fn expression(
     card: &Layout<'_>,
     at: usize,
@@ -54,7 +54,7 @@ pub(crate) fn expression(
     }
 }
 
-#[cycle(arm_arms_choice_exit_expression_parts_plain_val)]
+#[cycle(expressions_and_arms)]
 fn val(
     card: &Layout<'_>,
     at: usize,
@@ -73,7 +73,7 @@ fn val(
     expression(card, next, scope, bound + 1)
 }
 
-#[cycle(arm_arms_choice_exit_expression_parts_plain_val)]
+#[cycle(expressions_and_arms)]
 fn exit(
     card: &Layout<'_>,
     at: usize,
@@ -97,7 +97,7 @@ fn exit(
     }
 }
 
-#[cycle(arm_arms_choice_exit_expression_parts_plain_val)]
+#[cycle(expressions_and_arms)]
 fn plain(
     card: &Layout<'_>,
     at: usize,
@@ -119,7 +119,7 @@ fn plain(
 }
 
 // n parts in one scope, behind those whose types are known.
-#[cycle(arm_arms_choice_exit_expression_parts_plain_val)]
+#[cycle(expressions_and_arms)]
 fn parts(
     card: &Layout<'_>,
     at: usize,
@@ -143,7 +143,7 @@ fn parts(
     parts(card, next, n - 1, types, scope, bound)
 }
 
-#[cycle(arm_arms_choice_exit_expression_parts_plain_val)]
+#[cycle(expressions_and_arms)]
 fn choice(
     card: &Layout<'_>,
     at: usize,
@@ -176,7 +176,7 @@ fn choice(
 }
 
 // An arm's names are bound to the fields of its case.
-#[cycle(arm_arms_choice_exit_expression_parts_plain_val)]
+#[cycle(expressions_and_arms)]
 fn arm(
     card: &Layout<'_>,
     at: usize,
@@ -198,7 +198,7 @@ fn arm(
 }
 
 // The arms up to their CLOSE: whether all have the type of the first.
-#[cycle(arm_arms_choice_exit_expression_parts_plain_val)]
+#[cycle(expressions_and_arms)]
 fn arms(
     card: &Layout<'_>,
     at: usize,

@@ -1,4 +1,4 @@
-ghost use Rattle.std.specs.Prelude.{◌≡◌, true, leb, ◌++◌, length, take, drop, if◌then◌else◌, Some, None, Decides, nat_le};
+ghost use Rattle.std.specs.Prelude.{◌≡◌, true, ◌++◌, length, take, drop, if◌then◌else◌, Some, None, Decides, nat_le};
 ghost use Rattle.cells.specs.Meaning.{text_of, answered};
 ghost use Rattle.cells.specs.Same.{same_text};
 ghost use Rattle.cells.specs.Means.{same_text_laws};
@@ -22,7 +22,7 @@ fn copied(bytes: &[u8], into: &mut [u8]) -> bool
 impl Text {
     // Nothing where there are more than 24 bytes.
     pub fn of(bytes: &[u8]) -> Option<Text>
-        ensures { answered text_of result ≡ (if leb (length bytes.now) 24 then Some bytes.now else None) }
+        ensures { answered text_of result ≡ (if nat_le (length bytes.now) 24 then Some bytes.now else None) }
     {
         let mut text = [0; 24];
         if copied(bytes, &mut text) {

@@ -5,7 +5,7 @@ use Rattle.table.specs.declared.token.Head.TheVariants.{Leaf, Pair, If, Match, E
 use Rattle.grammar.specs.Grammar.{want_type, want_expr, want_arms, expecting, parts}
 use Rattle.grammar.specs.Found.{after_arm}
 use Rattle.grammar.proofs.Steps.{token, told, step, stop, both, first, first_of, group_exprs}
-use Rattle.grammar.proofs.descent.+arms_expression_expressions.Goals as goal
+use Rattle.grammar.proofs.descent.+expressions_and_arms.Goals as goal
 
 pub arms-returns-then-not-branch : goal.arms-returns-then-not-branch
 arms-returns-then-not-branch t c =

@@ -1,6 +1,6 @@
 -- The records left fall at each call, but for that of the first of several expressions.
 use Rattle.std.proofs.Common.{◌+◌, ◌-◌, ◌*◌, length}
-use Rattle.grammar.proofs.descent.+arms_expression_expressions.Given as goal
+use Rattle.grammar.proofs.descent.+expressions_and_arms.Given as goal
 
 abbrev pub decreases-arms : goal.decreases-arms
 decreases-arms l = 2 * (length l.tokens.now - l.at)

@@ -1,7 +1,7 @@
 -- The records left fall at each call, or the work left at one record.
 use Rattle.std.proofs.Common.{◌+◌, ◌-◌, ◌*◌, length}
 use Rattle.numbering.specs.Views.{tokens_in}
-use Rattle.typing.proofs.walk.+arm_arms_choice_exit_expression_parts_plain_val.Given as goal
+use Rattle.typing.proofs.walk.+expressions_and_arms.Given as goal
 
 abbrev pub decreases-arm : goal.decreases-arm
 decreases-arm l = 4 * (length (tokens_in l.card.now) - l.at) + 2
