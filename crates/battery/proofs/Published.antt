@@ -6,7 +6,7 @@ use Rattle.battery.specs.declared.Arith.{Arith}
 use Rattle.battery.specs.declared.Arith.TheVariants.{Add, Mul, Div, Mod}
 use Rattle.battery.specs.declared.value.Value.{Value}
 use Rattle.battery.specs.declared.value.Value.TheVariants.{Number as number_v, Boolean as boolean_v}
-use Rattle.battery.specs.declared.outcome.Outcome.TheVariants.{Value as value}
+use Rattle.std.specs.Prelude.{Ok as value}
 use Rattle.battery.specs.Tree.{Expr, Calc, Eq, Scope, in_range}
 use Rattle.battery.specs.Cell.{Cell}
 use Rattle.battery.specs.Rules.{Setup, Judgement, ◌⊢◌, same, first, gives, goes, is_zero, result_of, Rule, r_unit, r_num, r_bool, r_str, r_local, r_calc, r_concat, r_eq, r_lt, r_seq, r_if_true, r_if_false, r_val, r_call, r_make, r_match, same_z, same_bool, same_bytes, answer, fields, Compare, c_unit, c_num, c_bool, c_text, c_cases, c_fields, values, Opens, Eval, by_giving, by_going, by_answer, by_fields, Parts, no_part, part, Pairs, all_equal, pair_equal, pair_differs}

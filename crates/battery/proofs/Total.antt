@@ -8,8 +8,8 @@ use Rattle.battery.specs.declared.value.Value.{Value}
 use Rattle.battery.specs.declared.value.Value.TheVariants.{Number as number_v, Boolean as boolean_v, Place as place_v}
 use Rattle.battery.specs.declared.outcome.Stop.{Stop}
 use Rattle.battery.specs.declared.outcome.Stop.TheVariants.{FullStore as full_store, TooDeep as too_deep, Overrun as overrun}
-use Rattle.battery.specs.declared.outcome.Outcome.{Outcome}
-use Rattle.battery.specs.declared.outcome.Outcome.TheVariants.{Value as value, Stop as stop}
+use Rattle.battery.specs.Outcome.{Outcome}
+use Rattle.std.specs.Prelude.{Ok as value, Err as stop}
 use Rattle.battery.specs.Tree.{Expr, Calc, Concat, Eq, Lt, Seq, If, Val, Match, Exit, Exprs, ◌&◌, Arms, arm, Scope, find, bind, at, Card, in_range}
 use Rattle.battery.specs.Typing.{◌∣◌⊢◌∶◌, t_unit, t_num, t_bool, t_str, t_local, t_calc, t_concat, t_eq, t_lt, t_seq, t_if, t_val, t_call, t_make, t_match, t_exit, ◌∣◌⊢⋆◌∶◌, t_nil, t_cons, TypedArms, t_no_arm, t_arm, TypedCard, arms_of}
 use Rattle.battery.specs.Cell.{Cell, text_cell, enum_cell}

@@ -4,7 +4,7 @@ use lib.Signed.{lt_z}
 use Rattle.battery.specs.declared.value.Value.{Value}
 use Rattle.battery.specs.declared.value.Value.TheVariants.{Number as number_v, Boolean as boolean_v, Place as place_v}
 use Rattle.battery.specs.declared.outcome.Stop.TheVariants.{TooDeep as too_deep}
-use Rattle.battery.specs.declared.outcome.Outcome.TheVariants.{Value as value, Stop as stop}
+use Rattle.std.specs.Prelude.{Ok as value, Err as stop}
 use Rattle.battery.specs.Tree.{Num, Str, Local, Lt, Call, Make, ∅, ◌&◌, Scope, at, Fn, Card}
 use Rattle.battery.specs.Cell.{Cell, text_cell, enum_cell}
 use Rattle.battery.specs.Rules.{Setup, Opens, ◌⊢◌, Eval, at_too_deep, by_giving, by_stopping, by_going, by_answer, by_fields, Parts, values, no_part, part, all_equal, pair_equal, c_text, c_fields, r_num, r_str, r_local, r_calc, r_calc_out, r_concat, r_concat_long, r_eq, r_lt, r_if_true, r_if_false, r_call, r_make, r_make_full, plotter}

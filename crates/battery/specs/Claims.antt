@@ -2,7 +2,7 @@
 use Rattle.std.specs.Prelude.{◌≡◌, ℕ, ◌<◌, ◌≢◌, List, ℤ, pos, ◌-ℤ◌, ◌*ℤ◌, Some, int_div, int_rem, unsigned_abs}
 use Rattle.battery.specs.declared.Ty.{Ty}
 use Rattle.battery.specs.declared.value.Value.{Value}
-use Rattle.battery.specs.declared.outcome.Outcome.{Outcome}
+use Rattle.battery.specs.Outcome.{Outcome}
 use Rattle.battery.specs.Tree.{at, Fn, Card}
 use Rattle.battery.specs.Typing.{TypedCard}
 use Rattle.battery.specs.Cell.{Cell, Put, append}

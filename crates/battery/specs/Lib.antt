@@ -1,6 +1,7 @@
 pub mod Tree
 pub mod Typing
 pub mod Cell
+pub mod Outcome
 pub mod Rules
 pub mod Same
 pub mod Values

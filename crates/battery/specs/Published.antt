@@ -3,7 +3,7 @@ use Rattle.std.specs.Prelude.{◌≡◌, ℕ, suc, ◌≤◌, Bool, true, false,
 use Rattle.battery.specs.declared.Arith.TheVariants.{Add, Mul, Div, Mod}
 use Rattle.battery.specs.declared.value.Value.{Value}
 use Rattle.battery.specs.declared.value.Value.TheVariants.{Unit as unit_v, Number as number_v, Boolean as boolean_v, Place as place_v}
-use Rattle.battery.specs.declared.outcome.Outcome.TheVariants.{Value as value}
+use Rattle.std.specs.Prelude.{Ok as value}
 use Rattle.battery.specs.Tree.{Expr, Unit', Num, Bool', Str, Local, Calc, Concat, Eq, Lt, Seq, If, Val, Call, Make, Match, Exprs, Scope, find, bind, at, in_range}
 use Rattle.battery.specs.Cell.{Cell, text_cell, enum_cell}
 use Rattle.battery.specs.Rules as rules

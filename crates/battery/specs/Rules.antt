@@ -6,8 +6,8 @@ use Rattle.battery.specs.declared.value.Value.{Value}
 use Rattle.battery.specs.declared.value.Value.TheVariants.{Unit as unit_v, Number as number_v, Boolean as boolean_v, Place as place_v}
 use Rattle.battery.specs.declared.outcome.Stop.{Stop}
 use Rattle.battery.specs.declared.outcome.Stop.TheVariants.{Exit as exits, ZeroDivisor as zero_divisor, OutOfRange as out_of_range, TooLong as too_long, FullStore as full_store, TooDeep as too_deep, Overrun as overrun}
-use Rattle.battery.specs.declared.outcome.Outcome.{Outcome}
-use Rattle.battery.specs.declared.outcome.Outcome.TheVariants.{Value as value, Stop as stop}
+use Rattle.battery.specs.Outcome.{Outcome}
+use Rattle.std.specs.Prelude.{Ok as value, Err as stop}
 use Rattle.battery.specs.Tree.{Expr, Unit', Num, Bool', Str, Local, Calc, Concat, Eq, Lt, Seq, If, Val, Call, Make, Match, Exit, Exprs, ∅, ◌&◌, Arms, no_arm, arm, place, Scope, find, bind, at, Fn, Card, in_range}
 use Rattle.battery.specs.Cell.{Cell, text_cell, enum_cell, Put, append}
 

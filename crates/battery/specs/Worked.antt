@@ -5,8 +5,8 @@ use Rattle.battery.specs.declared.Arith.{Arith}
 use Rattle.battery.specs.declared.Arith.TheVariants.{Div, Mod}
 use Rattle.battery.specs.declared.value.Value.TheVariants.{Number as number_v, Boolean as boolean_v, Place as place_v}
 use Rattle.battery.specs.declared.outcome.Stop.TheVariants.{OutOfRange as out_of_range, TooLong as too_long, FullStore as full_store, TooDeep as too_deep}
-use Rattle.battery.specs.declared.outcome.Outcome.{Outcome}
-use Rattle.battery.specs.declared.outcome.Outcome.TheVariants.{Value as value, Stop as stop}
+use Rattle.battery.specs.Outcome.{Outcome}
+use Rattle.std.specs.Prelude.{Ok as value, Err as stop}
 use Rattle.battery.specs.Tree.{Expr, Num, Str, Local, Calc, Concat, Eq, Lt, If, Call, Make, ∅, ◌&◌, at, Fn, Card}
 use Rattle.battery.specs.Cell.{Cell, text_cell, enum_cell}
 use Rattle.battery.specs.Rules.{◌⊢◌, Eval, Run, plotter}

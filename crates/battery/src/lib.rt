@@ -9,8 +9,9 @@ pub use theorems::{as_published, rules_hold, worked_cases};
 pub use value::Value;
 
 // The types of BATTERY values: two are equal when their kinds and enum numbers are.
-#[derive(Clone, Copy, PartialEq)]
+#[derive(Clone, Copy, PartialEq, Default)]
 pub enum Ty {
+    #[default]
     Unit,
     Number,
     Boolean,

@@ -13,8 +13,4 @@ pub enum Stop {
 }
 
 // How a run ends.
-#[derive(Clone, Copy)]
-pub enum Outcome {
-    Value(Value),
-    Stop(Stop),
-}
+pub type Outcome = Result<Value, Stop>;

@@ -1,17 +1,19 @@
 -- What a cell of the code means: a cell of the rules.
-use Rattle.std.specs.Prelude.{ℕ, List, take, Some, None, Option}
+use Rattle.std.specs.Prelude.{ℕ, List, Some, None, Option}
 use Rattle.battery.specs.declared.value.Value.{Value}
 use Rattle.battery.specs.Cell as rules
-use Rattle.cells.specs.declared.text.Text.{Text}
-use Rattle.cells.specs.declared.values.Values.{Values}
+use Rattle.few.specs.declared.items.Few.{Few}
+use Rattle.few.specs.Listed.{listed}
 use Rattle.cells.specs.declared.cell.Cell.{Cell}
 use Rattle.cells.specs.declared.cell.Cell.TheVariants.{Text as of_text, Enum as of_enum}
 
-abbrev pub text_of : Text → List ℕ
-text_of t = take t.len t.bytes
+-- the bytes of a text
+abbrev pub text_of : Few ℕ 24 → List ℕ
+text_of t = listed t
 
-abbrev pub values_of : Values → List Value
-values_of v = take v.len v.list
+-- the values, in order
+abbrev pub values_of : Few Value 4 → List Value
+values_of v = listed v
 
 abbrev pub meaning : Cell → rules.Cell
 meaning (of_text t) = rules.text_cell (text_of t)

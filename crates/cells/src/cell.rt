@@ -3,7 +3,14 @@ ghost use Rattle.cells.specs.Meaning.{meaning};
 ghost use Rattle.cells.specs.Same.{same_cell};
 ghost use Rattle.cells.specs.Means.{same_cell_laws};
 
-use crate::{Text, Values};
+use battery::Value;
+use few::Few;
+
+// The bytes of a text.
+pub type Text = Few<u8, 24>;
+
+// The fields of an enum value, or the arguments of a function, in order.
+pub type Values = Few<Value, 4>;
 
 // A value of an enum: its case and fields.
 #[derive(Clone, Copy)]

@@ -8,8 +8,8 @@ use Rattle.battery.specs.Rules.{arm_of, goes, ◌⊢◌}
 use Rattle.machine.specs.Machine.{one, of_cell, of_enum, after}
 use Rattle.table.specs.declared.token.Token.{Token}
 use Rattle.table.specs.declared.token.Token.TheVariants.{Close as CLOSE, Enum as ENUM, Case as CASE, Def as DEF, Ty as TYPE, Arm as ARM, Expr as EXPR}
-use Rattle.rules.specs.declared.standing.Arm.{Arm}
-use Rattle.rules.specs.Places.{arm_in}
+use Rattle.table.specs.declared.token.Arm.{Arm}
+use Rattle.table.specs.Sorts.{arm_in}
 use Rattle.numbering.proofs.Skip.{skips}
 use Rattle.scope.specs.declared.Entry.{Entry}
 use Rattle.program.specs.Stands.{tree_at, arms_at, Begins, ArmsStand, FirstArm, an_arm, no_more}

@@ -6,7 +6,7 @@ use Rattle.battery.specs.declared.value.Value.{Value}
 use Rattle.battery.specs.declared.value.Value.TheVariants.{Unit as unit_v, Number as number_v, Boolean as boolean_v, Place as place_v}
 use Rattle.battery.specs.declared.outcome.Stop.{Stop}
 use Rattle.battery.specs.declared.outcome.Stop.TheVariants.{Overrun as overrun, TooDeep as too_deep}
-use Rattle.battery.specs.declared.outcome.Outcome.TheVariants.{Stop as stop}
+use Rattle.std.specs.Prelude.{Err as stop}
 use Rattle.battery.specs.Tree.{place}
 use Rattle.battery.specs.Cell.{Cell}
 use Rattle.battery.specs.Rules.{Setup, ◌⊢◌, same}

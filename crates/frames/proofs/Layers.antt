@@ -17,7 +17,7 @@ use Rattle.program.specs.Stands.{row_at, Node, Headed}
 use Rattle.program.specs.Views.{tokens_in, text_in, ends_in}
 use Rattle.program.specs.declared.program.Program.{Program}
 use Rattle.program.proofs.Stands.{headed}
-use Rattle.rules.specs.Places.{head_of}
+use Rattle.table.specs.Sorts.{head_of}
 use Rattle.frames.specs.Trees.{head_at, first_at, firsts, expr, exprs, Start, Starts}
 
 module _ (k : Program) where

@@ -5,7 +5,7 @@ use Rattle.battery.specs.Rules.{Setup, plotter}
 use Rattle.table.specs.declared.token.Head.{Head}
 use Rattle.table.specs.declared.token.Head.TheVariants.{Leaf as LEAF, Pair as PAIR, If as IF, Match as MATCH, Exit as EXIT, Many as MANY}
 use Rattle.table.specs.declared.token.Pair.TheVariants.{Calc as CALC, Concat as CONCAT, Eq as EQ, Lt as LT, Seq as SEQ, Val as VAL}
-use Rattle.rules.specs.Places.{head_of}
+use Rattle.table.specs.Sorts.{head_of}
 use Rattle.program.specs.Stands.{tree_at, row_at, Begins, Row}
 use Rattle.program.specs.Views.{tokens_in, text_in, ends_in, card_in}
 use Rattle.program.specs.declared.program.Program.{Program}

@@ -3,7 +3,7 @@ use Rattle.std.specs.Prelude.{◌≡◌, ℕ, zero, suc, ◌+◌, ◌-◌, ◌*�
 use Rattle.battery.specs.declared.value.Value.{Value}
 use Rattle.battery.specs.declared.value.Value.TheVariants.{Unit as unit_v}
 use Rattle.battery.specs.declared.outcome.Stop.TheVariants.{Overrun as overrun}
-use Rattle.battery.specs.declared.outcome.Outcome.TheVariants.{Value as value, Stop as stop}
+use Rattle.std.specs.Prelude.{Ok as value, Err as stop}
 use Rattle.battery.specs.Tree.{Scope}
 use Rattle.battery.specs.Cell.{Cell}
 use Rattle.battery.specs.Rules.{Setup, ◌⊢◌, gives, stops, goes, same, answer, fields}

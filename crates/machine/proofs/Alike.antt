@@ -4,8 +4,8 @@ use native.Mathlib.Decide.{dec_le}
 use Rattle.battery.specs.declared.value.Value.{Value}
 use Rattle.battery.specs.declared.value.Value.TheVariants.{Boolean as boolean_v}
 use Rattle.battery.specs.declared.outcome.Stop.TheVariants.{FullStore as full_store, TooDeep as too_deep}
-use Rattle.battery.specs.declared.outcome.Outcome.{Outcome}
-use Rattle.battery.specs.declared.outcome.Outcome.TheVariants.{Stop as stop}
+use Rattle.battery.specs.Outcome.{Outcome}
+use Rattle.std.specs.Prelude.{Err as stop}
 use Rattle.battery.specs.Tree.{Expr, Unit', Num, Bool', Str, Local, Calc, Concat, Eq, Lt, Seq, If, Val, Call, Make, Match, Exit, Exprs, ∅, ◌&◌, place, Scope, ◌▸◌}
 use Rattle.battery.specs.Cell.{Cell, text_cell, enum_cell, Put, append}
 use Rattle.battery.specs.Rules.{Setup, Judgement, ◌⊢◌, same, record_of, first, Move, gives, stops, goes, Comparison, answer, fields}

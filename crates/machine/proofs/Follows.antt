@@ -2,8 +2,8 @@
 use Rattle.std.proofs.Common.{◌≡◌, ℕ, zero, suc, ◌+◌, ◌<◌, ◌≤◌, Bool, true, false, T, eqb, leb, ◌≢◌, List, [], ◌∷◌, ◌++◌, length, Some, sym, refl, ap, ◌∙◌, subst, append_assoc, append-nil, suc-add, zero-add, arith, le→leb, eqb→eq, leb→le}
 use lib.Dec.{eqb_refl}
 use Rattle.battery.specs.declared.value.Value.{Value}
-use Rattle.battery.specs.declared.outcome.Outcome.{Outcome}
-use Rattle.battery.specs.declared.outcome.Outcome.TheVariants.{Value as value, Stop as stop}
+use Rattle.battery.specs.Outcome.{Outcome}
+use Rattle.std.specs.Prelude.{Ok as value, Err as stop}
 use Rattle.battery.specs.Tree.{Expr, Exprs, ∅, place, Scope}
 use Rattle.battery.specs.Cell.{Cell}
 use Rattle.battery.specs.Rules.{Setup, Outcomes, values, cut, Judgement, ◌⊢◌, same, Move, Rule, r_unit, r_num, r_bool, r_str, r_str_full, r_local, r_calc, r_calc_out, r_calc_zero, r_concat, r_concat_long, r_concat_full, r_eq, r_lt, r_seq, r_if_true, r_if_false, r_val, r_call, r_make, r_make_full, r_match, r_exit, Comparison, Compare, c_unit, c_num, c_bool, c_text, c_cases, c_fields, Opens, Eval, at_overrun, at_too_deep, part_stops, by_giving, by_stopping, by_going, by_answer, by_fields, Parts, no_part, part, this_stops, later_stops, Pairs, all_equal, pair_equal, pair_differs, pair_stops}

@@ -5,8 +5,8 @@ use native.Mathlib.Decide.{dec_le}
 use Rattle.battery.specs.declared.value.Value.{Value}
 use Rattle.battery.specs.declared.value.Value.TheVariants.{Boolean as boolean_v}
 use Rattle.battery.specs.declared.outcome.Stop.TheVariants.{TooDeep as too_deep, Overrun as overrun}
-use Rattle.battery.specs.declared.outcome.Outcome.{Outcome}
-use Rattle.battery.specs.declared.outcome.Outcome.TheVariants.{Value as value, Stop as stop}
+use Rattle.battery.specs.Outcome.{Outcome}
+use Rattle.std.specs.Prelude.{Ok as value, Err as stop}
 use Rattle.battery.specs.Tree.{Expr, Exprs, ∅, ◌&◌, place, Scope, bind, Fn}
 use Rattle.battery.specs.Cell.{Cell}
 use Rattle.battery.specs.Rules.{Setup, Judgement, ◌⊢◌, same, record_of, first, Move, gives, stops, goes, Comparison, answer, fields, Eval, Run}

@@ -2,8 +2,8 @@
 use Rattle.std.specs.Prelude.{◌≡◌, ℕ, ◌+◌, ◌≤◌, ◌⊎◌, ◌↔◌, List, [], ◌∷◌, pos}
 use Rattle.battery.specs.declared.value.Value.{Value}
 use Rattle.battery.specs.declared.value.Value.TheVariants.{Number as number_v, Place as place_v}
-use Rattle.battery.specs.declared.outcome.Outcome.{Outcome}
-use Rattle.battery.specs.declared.outcome.Outcome.TheVariants.{Value as value, Stop as stop}
+use Rattle.battery.specs.Outcome.{Outcome}
+use Rattle.std.specs.Prelude.{Ok as value, Err as stop}
 use Rattle.battery.specs.declared.outcome.Stop.TheVariants.{FullStore as full_store}
 use Rattle.battery.specs.Tree.{bind, Fn}
 use Rattle.battery.specs.Cell.{Cell, enum_cell, append}

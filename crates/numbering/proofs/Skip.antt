@@ -4,7 +4,8 @@ use Rattle.battery.specs.Tree.{Exprs, ∅, ◌&◌, at}
 use Rattle.table.specs.declared.token.Token.{Token}
 use Rattle.table.specs.declared.token.Token.TheVariants.{Close as CLOSE, Enum as ENUM, Case as CASE, Def as DEF, Ty as TYPE, Arm as ARM, Expr as EXPR}
 use Rattle.grammar.specs.Grammar.{Piece, close, type, expr, cases, arms, an_enum, a_fn, exprs, count, Spells, s_end, s_close, s_type, s_leaf, s_pair, s_if, s_many, s_match, s_last_arm, s_arm, s_exit, s_last_case, s_case, s_enum, s_def, pieces_of}
-use Rattle.numbering.specs.Ends.{look, times, is_close, past, Ends}
+use Rattle.numbering.specs.Ends.{look, times, past, Ends}
+use Rattle.table.specs.Sorts.{is_close}
 use Rattle.numbering.proofs.Standing.{Skips}
 use Rattle.numbering.proofs.Indexed.{at_below}
 use Rattle.numbering.proofs.Lists.{at_drop, drop_next}

@@ -5,6 +5,7 @@ use Rattle.table.specs.declared.token.Token.{Token}
 use Rattle.table.specs.declared.token.Token.TheVariants.{Close as CLOSE, Enum as ENUM, Case as CASE, Def as DEF, Ty as TYPE, Arm as ARM, Expr as EXPR}
 use Rattle.table.specs.declared.token.Head.{Head}
 use Rattle.table.specs.declared.token.Head.TheVariants.{Leaf as LEAF, Pair as PAIR, If as IF, Match as MATCH, Exit as EXIT, Many as MANY}
+use Rattle.table.specs.Sorts.{is_close}
 
 -- what stands in the table behind place p, and the end of all elsewhere
 abbrev pub look : List Token → List ℕ → ℕ → ℕ → ℕ
@@ -13,16 +14,6 @@ look ws es p q = cond (nat_lt p q && nat_lt q (length ws)) (slice_index es q) (l
 abbrev pub times : ℕ → (ℕ → ℕ) → ℕ → ℕ
 times zero f q = q
 times (suc n) f q = times n f (f q)
-
-abbrev pub is_close : Option Token → Bool
-is_close None = false
-is_close (Some CLOSE) = true
-is_close (Some (ENUM k)) = false
-is_close (Some (CASE n k)) = false
-is_close (Some (DEF n k)) = false
-is_close (Some (TYPE τ)) = false
-is_close (Some (ARM n x c)) = false
-is_close (Some (EXPR h)) = false
 
 -- behind a head, with f for the place behind what stands at a place
 abbrev pub past_head : (ℕ → ℕ) → ℕ → Head → ℕ

@@ -1,7 +1,8 @@
 ghost use Rattle.std.specs.Prelude.{◌≡◌, ◌<◌, true, length, Some};
 ghost use Rattle.battery.specs.Tree.{at};
 ghost use Rattle.table.specs.declared.token.Token.TheVariants.{Arm as ARM};
-ghost use Rattle.numbering.specs.Ends.{times as times_of, is_close, past_head, past as past_of, Ends};
+ghost use Rattle.numbering.specs.Ends.{times as times_of, past_head, past as past_of, Ends};
+ghost use Rattle.table.specs.Sorts.{is_close};
 ghost use Rattle.numbering.specs.Behind.{tokens_of, behind};
 
 use crate::Tokens;
@@ -13,15 +14,6 @@ struct Filled<'a, 'b> {
     tokens: Tokens<'a>,
     ends: &'b [u16; 512],
     place: u16,
-}
-
-fn is_close(token: Token) -> bool
-    ensures { result ≡ is_close (Some token) }
-{
-    match token {
-        Token::Close => true,
-        _ => false,
-    }
 }
 
 impl Filled<'_, '_> {
@@ -49,7 +41,7 @@ impl Filled<'_, '_> {
         ensures is { result ≡ is_close (at (tokens_of self.entry) q) }
         ensures within { result ≡ true → q < length (tokens_of self.entry) }
     {
-        (q as usize) < self.tokens.list.len() && is_close(self.tokens.list[q as usize])
+        (q as usize) < self.tokens.list.len() && self.tokens.list[q as usize].is_close()
     }
 
     // The last arm's part stands before the CLOSE of all arms.

@@ -8,7 +8,7 @@ use Rattle.numbering.proofs.Standing.{Matched, neither, each, FnAt}
 use Rattle.numbering.proofs.Options.{never, Some≡}
 use Rattle.numbering.proofs.Indexed.{at_below}
 use Rattle.numbering.proofs.Declared.{function_at}
-use Rattle.rules.specs.Places.{parameter_count}
+use Rattle.table.specs.Sorts.{parameter_count}
 use Rattle.program.specs.Stands.{tree_at, Begins}
 use Rattle.program.specs.declared.function.Function.{Function}
 use Rattle.program.specs.Called.{OfFunction}

@@ -6,8 +6,8 @@ use Rattle.table.specs.declared.token.Token.{Token}
 use Rattle.table.specs.declared.token.Token.TheVariants.{Close as CLOSE, Enum as ENUM, Case as CASE, Def as DEF, Ty as TYPE, Arm as ARM, Expr as EXPR}
 use Rattle.table.specs.declared.token.Head.{Head}
 use Rattle.numbering.proofs.Options.{never, Some≡}
-use Rattle.rules.specs.declared.standing.Arm.{Arm}
-use Rattle.rules.specs.Places.{head_of, arm_in, type_of, field_count, parameter_count}
+use Rattle.table.specs.declared.token.Arm.{Arm}
+use Rattle.table.specs.Sorts.{head_of, arm_in, type_of, field_count, parameter_count}
 
 pub arm_is : (o : Option Token) (a : Arm) → Some a ≡ arm_in o → o ≡ Some (ARM a.names a.first a.case)
 arm_is None a e = never (sym e)

@@ -13,7 +13,7 @@ use Rattle.numbering.proofs.Declared.{case_at, function_at}
 use Rattle.rules.specs.declared.types.Types.{Types}
 use Rattle.rules.specs.declared.declared.Signature.{Signature}
 use Rattle.rules.specs.Listed.{types_of}
-use Rattle.rules.specs.Places.{field_count, parameter_count, type_of}
+use Rattle.table.specs.Sorts.{field_count, parameter_count, type_of}
 use Rattle.verdict.specs.Order.{fields_of}
 use Rattle.rules.specs.Standing.{TypesAt, OfEnum}
 use Rattle.rules.specs.Signatures.{SameTypes, SameSignature, Declares, DeclaredAt}

@@ -17,7 +17,7 @@ use Rattle.verdict.specs.Order.{all_once, arms_named, as_fields}
 use Rattle.rules.specs.Typed.{arms_from, FitAt}
 use Rattle.rules.specs.Standing.{NextAt, CountAt, OnceAt, OfEnum, NamedAt}
 use Rattle.numbering.proofs.Parts.{Armed}
-use Rattle.rules.specs.Places.{field_count}
+use Rattle.table.specs.Sorts.{field_count}
 use Rattle.rules.proofs.Backs.{fields_is, fields_not}
 use Rattle.rules.proofs.Steps.{arm_here, first_arm}
 

@@ -1,7 +1,6 @@
 pub mod Rules
 pub mod Typed
 pub mod Standing
-pub mod Places
 pub mod Listed
 pub mod Signatures
 pub mod Shapes

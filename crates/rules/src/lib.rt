@@ -13,5 +13,5 @@ pub use by_kind::{leaf_rule, same};
 pub use declared::{Signature, fields, function_types, rule};
 pub use fault::{Broken, TypeFault};
 pub use shape::{Shape, enum_of, shape_of};
-pub use standing::{Arm, arm_at, closes_at, head_at, type_at};
+pub use standing::{arm_at, closes_at, head_at, type_at};
 pub use types::Types;

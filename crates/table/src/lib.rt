@@ -8,4 +8,4 @@ mod token;
 pub use name::token_of;
 pub use pass::tokens_of;
 pub use row::{Parts, Row, row_of};
-pub use token::{Head, Leaf, Many, Pair, Token};
+pub use token::{Arm, Head, Leaf, Many, Pair, Token};

@@ -13,7 +13,7 @@ use Rattle.table.specs.declared.token.Leaf.{Leaf}
 use Rattle.table.specs.declared.token.Pair.TheVariants.{Calc as CALC, Concat as CONCAT, Eq as EQ, Lt as LT, Seq as SEQ, Val as VAL}
 use Rattle.scope.specs.declared.Entry.{Entry}
 use Rattle.scope.specs.Bound.{scope_of}
-use Rattle.numbering.specs.Ends.{is_close}
+use Rattle.table.specs.Sorts.{is_close}
 use Rattle.numbering.specs.Limits.{AllLimited, LimitedHead}
 use Rattle.numbering.specs.Places.{case_count}
 use Rattle.numbering.specs.Views.{OnCard}
@@ -27,7 +27,7 @@ use Rattle.rules.specs.declared.fault.TypeFault.{TypeFault}
 use Rattle.rules.specs.declared.shape.Shape.TheVariants.{Leaf as leaf, Plain as plain}
 use Rattle.rules.specs.declared.types.Types.{Types}
 use Rattle.rules.specs.Listed.{types_of}
-use Rattle.rules.specs.Places.{head_of, arm_in, type_of}
+use Rattle.table.specs.Sorts.{head_of, arm_in, type_of}
 use Rattle.rules.specs.Rules.{ruled, parts_of, leaf_rule}
 use Rattle.rules.specs.Shapes.{shape_of}
 use Rattle.rules.specs.Standing.{OfEnum}

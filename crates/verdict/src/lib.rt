@@ -4,8 +4,8 @@ ghost use Rattle.verdict.specs.Claims.{ReadsExactly, SpeltUnlessMisplaced, Mispl
 ghost use Rattle.verdict.specs.Cases.{KAccepted, KWithout4, KWithout16};
 
 // What is proved of every image, once: the card that its bytes spell, the record that cannot follow,
-// the typing of its functions, and the verdict. The function answers nothing of use.
-pub fn verdict_holds() -> u8
+// the typing of its functions, and the verdict. The function does nothing.
+pub fn verdict_holds()
     ensures reads { ReadsExactly }
     ensures spelt { SpeltUnlessMisplaced }
     ensures first { MisplacedFirst }
@@ -21,5 +21,4 @@ pub fn verdict_holds() -> u8
     ensures without4 { KWithout4 }
     ensures without16 { KWithout16 }
 {
-    0
 }

@@ -1,7 +1,7 @@
 ghost use Rattle.std.specs.Prelude.{◌≡◌, length, take, drop, if◌then◌else◌, Some, None, nat_le, slice_index};
 ghost use Rattle.battery.specs.Tree.{Card, at};
 ghost use Rattle.grammar.specs.Grammar.{card_of};
-ghost use Rattle.rules.specs.Places.{head_of, arm_in, parameter_count};
+ghost use Rattle.table.specs.Sorts.{head_of, arm_in, parameter_count};
 ghost use Rattle.cells.specs.Meaning.{text_of, answered};
 ghost use Rattle.program.specs.Views.{tokens_in, text_in, ends_in};
 ghost use Rattle.program.specs.Called.{OfFunction};
@@ -9,8 +9,7 @@ ghost use Rattle.program.specs.Called.{OfFunction};
 use super::Program;
 use crate::Function;
 use cells::Text;
-use rules::Arm;
-use table::{Head, Token};
+use table::{Arm, Head, Token};
 
 impl Program {
     fn token(&self, place: usize) -> Option<Token>
@@ -26,19 +25,13 @@ impl Program {
     pub fn head(&self, place: u16) -> Option<Head>
         ensures { result ≡ head_of (at (tokens_in self.now) place) }
     {
-        match self.token(place as usize) {
-            Some(Token::Expr(head)) => Some(head),
-            _ => None,
-        }
+        self.token(place as usize)?.head()
     }
 
     pub fn arm(&self, place: u16) -> Option<Arm>
         ensures { result ≡ arm_in (at (tokens_in self.now) place) }
     {
-        match self.token(place as usize) {
-            Some(Token::Arm { names, first, case }) => Some(Arm { names, first, case }),
-            _ => None,
-        }
+        self.token(place as usize)?.arm()
     }
 
     // The place after what stands at a place.
@@ -55,10 +48,7 @@ impl Program {
     fn parameters(&self, place: usize) -> Option<u8>
         ensures { result ≡ parameter_count (at (tokens_in self.now) place) }
     {
-        match self.token(place) {
-            Some(Token::Def { parameters, .. }) => Some(parameters),
-            _ => None,
-        }
+        self.token(place)?.parameters()
     }
 
     // A function's body stands behind its DEF, the types of its parameters and that of its result.

@@ -1,6 +1,6 @@
 use Rattle.std.proofs.Common.{None, sym, refl, rules}
 use Rattle.numbering.specs.Views.{tokens_in}
-use Rattle.rules.specs.Places.{field_count}
+use Rattle.table.specs.Sorts.{field_count}
 use Rattle.rules.proofs.Backs.{stands}
 use Rattle.rules.proofs.Declares.{no_case, lost_case, case_there}
 use Rattle.rules.proofs.declared.case_types.Goals as goal

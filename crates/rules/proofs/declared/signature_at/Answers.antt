@@ -1,6 +1,6 @@
 use Rattle.std.proofs.Common.{refl, rules}
 use Rattle.numbering.specs.Views.{tokens_in}
-use Rattle.rules.specs.Places.{parameter_count}
+use Rattle.table.specs.Sorts.{parameter_count}
 use Rattle.rules.proofs.Backs.{stands}
 use Rattle.rules.proofs.Declares.{declared}
 use Rattle.rules.proofs.declared.signature_at.Goals as goal

@@ -5,7 +5,7 @@ use Rattle.std.proofs.lemmas.Result.{err_from_is_err_and}
 use Rattle.numbering.specs.Views.{tokens_in}
 use Rattle.numbering.proofs.Indexed.{at_below}
 use Rattle.rules.specs.Listed.{types_of}
-use Rattle.rules.specs.Places.{head_of, type_of}
+use Rattle.table.specs.Sorts.{head_of, type_of}
 use Rattle.rules.proofs.Backs.{stands, arm_is}
 use Rattle.typing.proofs.Turns.{Seen, pushed, bound_one, bound_all, few_types, same_so, not_same, fewer, later, no_sooner, no_head, leaf_turn, leaf_break, val_break, val_turn, exit_lost, exit_break, exit_wrong, exit_turn, parts_done, parts_break, parts_turn, few_parts, plain_break, plain_turn, plain_wrong, match_break, match_no_enum, match_no_cases, match_misarmed, match_first_break, match_other_break, match_turn, match_differ, arm_lost, arm_turn, closed_below, arms_done, arms_break, arms_other_break, arms_turn}
 use Rattle.typing.proofs.walk.+expressions_and_arms.Goals as goal

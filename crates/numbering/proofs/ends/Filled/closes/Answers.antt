@@ -1,7 +1,7 @@
 -- The token at a place below the length is the one that is read.
 use Rattle.std.proofs.Common.{length, sym, ap, ◌∙◌}
 use Rattle.std.proofs.lemmas.Bool.{le-ltb}
-use Rattle.numbering.specs.Ends.{is_close}
+use Rattle.table.specs.Sorts.{is_close}
 use Rattle.numbering.proofs.Options.{false≢true}
 use Rattle.numbering.proofs.Indexed.{at_in, at_past}
 use Rattle.numbering.proofs.ends.Filled.closes.Goals as goal

@@ -1,0 +1,22 @@
+mod list;
+
+ghost use Rattle.std.specs.Prelude.{◌≡◌, ◌≤◌, length};
+
+use std::alloc::AllocError;
+
+// At most N items, in order, in the value itself: the first `len` of `items`. What lies behind
+// them means nothing.
+pub struct Few<T, const N: usize> {
+    items: [T; N],
+    len: usize,
+    ghost whole: { length items ≡ N },
+    ghost room: { len ≤ N },
+}
+
+impl<T: Copy, const N: usize> Clone for Few<T, N> {
+    fn clone(&self) -> Result<Few<T, N>, AllocError> {
+        Ok(*self)
+    }
+}
+
+impl<T: Copy, const N: usize> Copy for Few<T, N> {}

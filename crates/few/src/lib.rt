@@ -1,0 +1,5 @@
+#![tactic(auto)]
+
+mod items;
+
+pub use items::Few;
