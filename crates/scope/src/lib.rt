@@ -1,6 +1,6 @@
 #![tactic(auto)]
 
-ghost use Rattle.std.specs.Prelude.{◌≡◌, ◌+◌, true, false, ◌&&◌, ◌∷◌, length, take, drop, slice_set, if◌then◌else◌, nat_le, nat_lt};
+ghost use Rattle.std.specs.Prelude.{◌≡◌, ◌+◌, ◌<◌, ◌≤◌, ◌↔◌, ◌∷◌, IsOk, OnOk, OnErr, length, take, drop, slice_set, if◌then◌else◌, nat_lt};
 ghost use Rattle.battery.specs.Tree.{find, bind as bound};
 ghost use Rattle.scope.specs.Bound.{scope_of};
 
@@ -10,6 +10,10 @@ pub struct Entry<T> {
     pub name: u32,
     pub value: T,
 }
+
+// There is no room for what was to be bound.
+#[derive(Clone, Copy, PartialEq, Debug)]
+pub struct Full;
 
 // What the newest entry of a name holds.
 pub fn newest<T: Copy>(entries: &[Entry<T>], name: u32) -> Option<T>
@@ -25,31 +29,36 @@ pub fn newest<T: Copy>(entries: &[Entry<T>], name: u32) -> Option<T>
 }
 
 // Binds one name more behind the first `len` entries; where there is no room, nothing changes.
-pub fn bind<T: Copy>(entries: &mut [Entry<T>], len: usize, name: u32, value: T) -> bool
-    ensures told { result ≡ nat_lt len (length entries.old) }
+pub fn bind<T: Copy>(entries: &mut [Entry<T>], len: usize, name: u32, value: T) -> Result<(), Full>
+    ensures told { IsOk result ↔ (len < length entries.old) }
     ensures list { entries.new ≡ (if nat_lt len (length entries.old) then slice_set entries.old len (record { name = name; value = value }) else entries.old) }
     ensures below { take len entries.new ≡ take len entries.old }
-    ensures scope { result ≡ true → scope_of (take (len + 1) entries.new) ≡ (name, value) ∷ scope_of (take len entries.old) }
+    ensures scope { OnOk result (scope_of (take (len + 1) entries.new) ≡ (name, value) ∷ scope_of (take len entries.old)) }
 {
     if len >= entries.len() {
-        return false;
+        return Err(Full);
     }
     entries[len] = Entry { name, value };
-    true
+    Ok(())
 }
 
 // Binds the names from `first` on to the values, in order, behind the first `len` entries; where
 // there is no room, or there are more values than names of 16 bits, nothing changes.
-pub fn bind_all<T: Copy>(entries: &mut [Entry<T>], len: usize, first: u16, values: &[T]) -> bool
-    ensures told { result ≡ nat_le (length values.now) 65536 && nat_le (len + length values.now) (length entries.old) }
-    ensures refused { result ≡ false → entries.new ≡ entries.old }
+pub fn bind_all<T: Copy>(
+    entries: &mut [Entry<T>],
+    len: usize,
+    first: u16,
+    values: &[T],
+) -> Result<(), Full>
+    ensures told { IsOk result ↔ ((length values.now ≤ 65536) × (len + length values.now ≤ length entries.old)) }
+    ensures refused { OnErr result (entries.new ≡ entries.old) }
     ensures below { take len entries.new ≡ take len entries.old }
-    ensures scope { result ≡ true → scope_of (take (len + length values.now) entries.new) ≡ bound first values.now (scope_of (take len entries.old)) }
+    ensures scope { OnOk result (scope_of (take (len + length values.now) entries.new) ≡ bound first values.now (scope_of (take len entries.old))) }
     ensures behind { drop (len + length values.now) entries.new ≡ drop (len + length values.now) entries.old }
 {
     let room = entries.len();
     if values.len() > 65536 || len > room || values.len() > room - len {
-        return false;
+        return Err(Full);
     }
     for (i, value) in values.iter().enumerate() {
         entries[len + i] = Entry {
@@ -57,7 +66,7 @@ pub fn bind_all<T: Copy>(entries: &mut [Entry<T>], len: usize, first: u16, value
             value: *value,
         };
     }
-    true
+    Ok(())
 }
 
 #[cfg(test)]
@@ -70,9 +79,9 @@ mod tests {
             name: 0,
             value: 0u8,
         }; 2];
-        assert!(rt; bind(&mut entries, 0, 3, 1));
-        assert!(rt; bind(&mut entries, 1, 3, 2));
-        assert!(rt; !bind(&mut entries, 2, 3, 4));
+        assert_eq!(rt; bind(&mut entries, 0, 3, 1), Ok(()));
+        assert_eq!(rt; bind(&mut entries, 1, 3, 2), Ok(()));
+        assert_eq!(rt; bind(&mut entries, 2, 3, 4), Err(Full));
         assert_eq!(rt; newest(&entries, 3), Some(2));
     }
 
@@ -82,8 +91,8 @@ mod tests {
             name: 0,
             value: 0u8,
         }; 3];
-        assert!(rt; bind_all(&mut entries, 1, 7, &[5, 6]));
-        assert!(rt; !bind_all(&mut entries, 2, 8, &[8, 9]));
+        assert_eq!(rt; bind_all(&mut entries, 1, 7, &[5, 6]), Ok(()));
+        assert_eq!(rt; bind_all(&mut entries, 2, 8, &[8, 9]), Err(Full));
         assert_eq!(rt; newest(&entries, 8), Some(6));
     }
 }

@@ -1,5 +1,5 @@
 -- One entry written behind the first `len`.
-use Rattle.std.proofs.Common.{arith}
+use Rattle.std.proofs.Common.{arith, rules}
 use Rattle.std.proofs.lemmas.Bool.Decides.{nat_tests}
 use Rattle.std.proofs.lemmas.List.{take-set}
 use Rattle.scope.proofs.Entries.{scope_set}
@@ -7,8 +7,8 @@ use Rattle.scope.proofs.bind.Goals as goal
 
 pub returns : goal.returns
 returns g c = record {
-  told = grind (arith, nat_tests);
+  told = search rules;
   list = grind (arith, nat_tests);
   below = take-set c.args.entries.now c.args.len _;
-  scope = λ _. scope_set c.args.entries.now c.args.len _ (omega arith);
+  scope = scope_set c.args.entries.now c.args.len _ (omega arith);
 }

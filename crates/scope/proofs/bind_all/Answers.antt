@@ -23,6 +23,6 @@ returns g c =
       told = grind (arith, nat_tests);
       refused = search rules;
       below = c.loop-i.invariant.0;
-      scope = λ _. bind_all c.loop-i.entries c.args.values.now c.args.len c.loop-i.i c.args.first _ (omega arith) c.loop-i.invariant.1;
+      scope = bind_all c.loop-i.entries c.args.values.now c.args.len c.loop-i.i c.args.first _ (omega arith) c.loop-i.invariant.1;
       behind = c.loop-i.invariant.2;
     }
