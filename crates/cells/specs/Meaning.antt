@@ -1,5 +1,5 @@
 -- What a cell of the code means: a cell of the rules.
-use Rattle.std.specs.Prelude.{ℕ, List, Some, None, Option}
+use Rattle.std.specs.Prelude.{ℕ, List}
 use Rattle.battery.specs.declared.value.Value.{Value}
 use Rattle.battery.specs.Cell as rules
 use Rattle.few.specs.declared.items.Few.{Few}
@@ -18,8 +18,3 @@ values_of v = listed v
 abbrev pub meaning : Cell → rules.Cell
 meaning (of_text t) = rules.text_cell (text_of t)
 meaning (of_enum v) = rules.enum_cell v.of v.case (values_of v.fields)
-
--- what an answer means, where there is one
-abbrev pub answered : {A B : Type 0} → (A → B) → Option A → Option B
-answered f None = None
-answered f (Some a) = Some (f a)

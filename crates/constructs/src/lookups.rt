@@ -5,7 +5,8 @@ ghost use Rattle.battery.specs.declared.value.Value.{Value as Val};
 ghost use Rattle.machine.specs.Machine.{putting, of_cell, of_text, of_enum};
 ghost use Rattle.scope.specs.declared.Entry.{Entry};
 ghost use Rattle.program.specs.declared.program.Program.{Program};
-ghost use Rattle.cells.specs.Meaning.{meaning, text_of, answered};
+ghost use Rattle.std.specs.Option.{option_map};
+ghost use Rattle.cells.specs.Meaning.{meaning, text_of};
 ghost use Rattle.frames.specs.Views.{move, Kept};
 ghost use Rattle.constructs.specs.Celled.{enum_of};
 
@@ -28,7 +29,7 @@ pub(crate) fn placed<S: Store>(store: &mut S, at: u16, cell: Cell) -> Move
 
 // The text that a cell holds.
 fn text_in(cell: Option<Cell>) -> Option<Text>
-    ensures { answered text_of result ≡ (answered meaning cell ▸ of_text) }
+    ensures { option_map text_of result ≡ (option_map meaning cell ▸ of_text) }
 {
     let Some(held) = cell else {
         return None;
@@ -41,7 +42,7 @@ fn text_in(cell: Option<Cell>) -> Option<Text>
 
 // The enum value that a cell holds.
 fn enum_in(cell: Option<Cell>) -> Option<EnumValue>
-    ensures { answered enum_of result ≡ (answered meaning cell ▸ of_enum) }
+    ensures { option_map enum_of result ≡ (option_map meaning cell ▸ of_enum) }
 {
     let Some(held) = cell else {
         return None;
@@ -54,7 +55,7 @@ fn enum_in(cell: Option<Cell>) -> Option<EnumValue>
 
 // The cell that a value is the place of.
 pub(crate) fn cell_at<S: Store>(store: &S, v: Value) -> Option<Cell>
-    ensures { answered meaning result ≡ of_cell (S.Store.cells store.now) v }
+    ensures { option_map meaning result ≡ of_cell (S.Store.cells store.now) v }
 {
     match v {
         Value::Unit => None,
@@ -66,14 +67,14 @@ pub(crate) fn cell_at<S: Store>(store: &S, v: Value) -> Option<Cell>
 
 // The text at a value.
 pub(crate) fn text_at<S: Store>(store: &S, v: Value) -> Option<Text>
-    ensures { answered text_of result ≡ (of_cell (S.Store.cells store.now) v ▸ of_text) }
+    ensures { option_map text_of result ≡ (of_cell (S.Store.cells store.now) v ▸ of_text) }
 {
     text_in(cell_at(store, v))
 }
 
 // The enum value at a value.
 pub(crate) fn enum_at<S: Store>(store: &S, v: Value) -> Option<EnumValue>
-    ensures { answered enum_of result ≡ (of_cell (S.Store.cells store.now) v ▸ of_enum) }
+    ensures { option_map enum_of result ≡ (of_cell (S.Store.cells store.now) v ▸ of_enum) }
 {
     enum_in(cell_at(store, v))
 }

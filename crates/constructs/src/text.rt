@@ -4,7 +4,8 @@ ghost use Rattle.table.specs.declared.token.Leaf.TheVariants.{Text as STR};
 ghost use Rattle.table.specs.declared.token.Pair.TheVariants.{Concat as CONCAT};
 ghost use Rattle.battery.specs.declared.value.Value.{Value as Val};
 ghost use Rattle.scope.specs.declared.Entry.{Entry};
-ghost use Rattle.cells.specs.Meaning.{text_of, answered};
+ghost use Rattle.std.specs.Option.{option_map};
+ghost use Rattle.cells.specs.Meaning.{text_of};
 ghost use Rattle.program.specs.Views.{text_in};
 ghost use Rattle.frames.specs.Trees.{head_at};
 ghost use Rattle.frames.specs.Views.{Ready, Did};
@@ -28,7 +29,7 @@ fn laid(all: &mut [u8], from: usize, bytes: &[u8])
 
 // One text behind the other; nothing where that is more than 24 bytes.
 fn joined(a: &Text, b: &Text) -> Option<Text>
-    ensures { answered text_of result ≡ (if nat_le (length (text_of a.now ++ text_of b.now)) 24 then Some (text_of a.now ++ text_of b.now) else None) }
+    ensures { option_map text_of result ≡ (if nat_le (length (text_of a.now ++ text_of b.now)) 24 then Some (text_of a.now ++ text_of b.now) else None) }
 {
     let one = a.bytes();
     let other = b.bytes();

@@ -1,7 +1,8 @@
 ghost use Rattle.std.specs.Prelude.{◌≡◌, ℕ, ◌+◌, ◌<◌, ◌≤◌, [], ◌∷◌, ◌++◌, length, slice_set};
 ghost use Rattle.battery.specs.Cell.{placed, added};
 ghost use Rattle.battery.specs.Tree.{at};
-ghost use Rattle.cells.specs.Meaning.{meaning, answered};
+ghost use Rattle.std.specs.Option.{option_map};
+ghost use Rattle.cells.specs.Meaning.{meaning};
 ghost use Rattle.stores.specs.Bounds.{held_within};
 ghost use Rattle.stores.specs.Plain.{held, room, written};
 
@@ -38,7 +39,7 @@ fn write(slots: &mut [Cell], place: u16, cell: Cell)
 
 // The cell at a place of those held.
 fn read(slots: &[Cell], used: u16, place: u16) -> Option<Cell>
-    ensures { answered meaning result ≡ at (held used slots.now) place }
+    ensures { option_map meaning result ≡ at (held used slots.now) place }
 {
     if place < counted(slots, used) {
         Some(slots[place as usize])

@@ -1,7 +1,8 @@
 ghost use Rattle.std.specs.Prelude.{◌≡◌, ℕ, List, [], length};
 ghost use Rattle.battery.specs.Cell.{Cell as Held, placed, added};
 ghost use Rattle.battery.specs.Tree.{at};
-ghost use Rattle.cells.specs.Meaning.{meaning, answered};
+ghost use Rattle.std.specs.Option.{option_map};
+ghost use Rattle.cells.specs.Meaning.{meaning};
 ghost use Rattle.stores.specs.Within.{Within};
 
 use cells::Cell;
@@ -23,7 +24,7 @@ pub trait Store {
 
     // The cell at a place, where there is one.
     fn get(&self, place: u16) -> Option<Cell>
-        ensures { answered meaning result ≡ at (cells self.now) place };
+        ensures { option_map meaning result ≡ at (cells self.now) place };
 
     fn len(&self) -> u16
         ensures { result ≡ length (cells self.now) };

@@ -1,4 +1,5 @@
-ghost use Rattle.std.specs.Prelude.{◌≡◌, [], ◌∷◌, ◌++◌, length, if◌then◌else◌, Decides, MatchOption, nat_lt, ◌≤◌, ◌<◌};
+ghost use Rattle.std.specs.Prelude.{◌≡◌, [], ◌∷◌, ◌++◌, length, if◌then◌else◌, Decides, Some, None, nat_le, nat_lt};
+ghost use Rattle.std.specs.Option.{option_map};
 ghost use Rattle.std.specs.Cmp.Lexicographic.{pointwise, lists_per};
 ghost use Rattle.std.specs.Cmp.{on_per};
 ghost use Rattle.few.specs.Listed.{listed};
@@ -17,7 +18,7 @@ impl<T: Copy + Default, const N: usize> Few<T, N> {
 
     // Nothing where there are more than N.
     pub fn of(items: &[T]) -> Option<Few<T, N>>
-        ensures { MatchOption result (N < length items.now) (λ few. (length items.now ≤ N) × (listed few ≡ items.now)) }
+        ensures { option_map listed result ≡ (if nat_le (length items.now) N then Some items.now else None) }
     {
         let len = items.len();
         if len > N {

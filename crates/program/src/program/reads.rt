@@ -2,7 +2,8 @@ ghost use Rattle.std.specs.Prelude.{◌≡◌, length, take, drop, if◌then◌e
 ghost use Rattle.battery.specs.Tree.{Card, at};
 ghost use Rattle.grammar.specs.Grammar.{card_of};
 ghost use Rattle.table.specs.Sorts.{head_of, arm_in, parameter_count};
-ghost use Rattle.cells.specs.Meaning.{text_of, answered};
+ghost use Rattle.std.specs.Option.{option_map};
+ghost use Rattle.cells.specs.Meaning.{text_of};
 ghost use Rattle.program.specs.Views.{tokens_in, text_in, ends_in};
 ghost use Rattle.program.specs.Called.{OfFunction};
 
@@ -65,7 +66,7 @@ impl Program {
 
     // The bytes from a place on that are there; nothing where they are more than a text has.
     pub fn text(&self, place: u16, bytes: u8) -> Option<Text>
-        ensures { answered text_of result ≡ (if nat_le (length (take bytes (drop place (text_in self.now)))) 24 then Some (take bytes (drop place (text_in self.now))) else None) }
+        ensures { option_map text_of result ≡ (if nat_le (length (take bytes (drop place (text_in self.now)))) 24 then Some (take bytes (drop place (text_in self.now))) else None) }
     {
         let from = (place as usize).min(self.texts);
         let to = (from + bytes as usize).min(self.texts);
