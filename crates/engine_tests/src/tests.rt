@@ -7,7 +7,7 @@ use cells::{Cell, EnumValue, Text, Values};
 use engine::{advance, begin, idle};
 use frames::{Run, Stage};
 use program::Program;
-use std::fmt::Debug;
+use expect::{check, check_eq};
 use std::test::Fail;
 use stores::{Pair, Plain, Store};
 
@@ -57,22 +57,6 @@ fn turns<S: Store>(program: &Program, run: &mut Run<S>, count: u32, units: u16)
     for _ in 0..count {
         advance(program, run, units);
     }
-}
-
-// Fails a test from inside a helper.
-fn check(holds: bool) -> Result<(), Fail> {
-    if holds {
-        Ok(())
-    } else {
-        Err(Fail::new("does not hold"))
-    }
-}
-
-fn check_eq<T: PartialEq + Debug + Drop>(one: T, other: T) -> Result<(), Fail> {
-    if one == other {
-        return Ok(());
-    }
-    Err(Fail::new(format_args!("{one:?} is not {other:?}")))
 }
 
 fn same(a: &Stands, b: &Stands) -> Result<(), Fail> {
