@@ -16,39 +16,27 @@ pub struct Misplaced {
 fn close(token: Token) -> Option<()>
     ensures { Picks as_close (λ K _. K) token result }
 {
-    match token {
-        Token::Close => Some(()),
-        _ => None,
-    }
+    token.is_close().then_some(())
 }
 
 fn ty(token: Token) -> Option<()>
     ensures { Picks as_type (λ K _. K) token result }
 {
-    match token {
-        Token::Ty(_) => Some(()),
-        _ => None,
-    }
+    token.ty().map(|_| ())
 }
 
 // What begins an expression.
 fn head(token: Token) -> Option<Head>
     ensures { (place : ℕ) → Picks (as_expr place) (parts place) token result }
 {
-    match token {
-        Token::Expr(head) => Some(head),
-        _ => None,
-    }
+    token.head()
 }
 
 // The number of a CASE's fields.
 fn case(token: Token) -> Option<u8>
     ensures { (enumeration : ℕ) → Picks (as_case enumeration false) (λ K n. after_case enumeration K (Some n)) token result }
 {
-    match token {
-        Token::Case { fields, .. } => Some(fields),
-        _ => None,
-    }
+    token.fields()
 }
 
 // The same, or none at the CLOSE behind the last case.
@@ -65,10 +53,7 @@ fn case_or_close(token: Token) -> Option<Option<u8>>
 fn arm(token: Token) -> Option<()>
     ensures { (matching : ℕ) → Picks (as_arm matching false) (λ K _. after_arm matching K true) token result }
 {
-    match token {
-        Token::Arm { .. } => Some(()),
-        _ => None,
-    }
+    token.arm().map(|_| ())
 }
 
 // Whether an arm begins; else it is the CLOSE behind the last arm.
