@@ -88,8 +88,6 @@ impl<P: Store, Q: Store> Store for Pair<P, Q> {
 
     ghost limit = { λ p. sum (P.Store.limit p.first) (Q.Store.limit p.second) };
 
-    ghost within = { λ p. chain_within (P.Store.cells p.first) (Q.Store.cells p.second) (P.Store.limit p.first) (Q.Store.limit p.second) (P.Store.within p.first) (Q.Store.within p.second) };
-
     fn put(&mut self, cell: Cell) -> Option<u16> {
         if self.len() >= self.most() {
             return None;
@@ -121,4 +119,6 @@ impl<P: Store, Q: Store> Store for Pair<P, Q> {
         self.first.empty();
         self.second.empty();
     }
+
+    ghost within = { λ p. chain_within (P.Store.cells p.first) (Q.Store.cells p.second) (P.Store.limit p.first) (Q.Store.limit p.second) (P.Store.within p.first) (Q.Store.within p.second) };
 }

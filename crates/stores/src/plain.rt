@@ -56,8 +56,6 @@ impl<'a> Store for Plain<'a> {
 
     ghost limit = { λ p. room p.slots.now };
 
-    ghost within = { λ p. held_within p.used p.slots.now };
-
     fn put(&mut self, cell: Cell) -> Option<u16>
         ensures answer { result ≡ placed (room self.old.slots.now) (held self.old.used self.old.slots.now) }
         ensures list { held self.new.used self.new.slots.now ≡ added (room self.old.slots.now) (held self.old.used self.old.slots.now) (meaning cell) }
@@ -94,4 +92,6 @@ impl<'a> Store for Plain<'a> {
     {
         self.used = 0;
     }
+
+    ghost within = { λ p. held_within p.used p.slots.now };
 }
