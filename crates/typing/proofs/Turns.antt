@@ -25,8 +25,8 @@ use Rattle.verdict.specs.Order.{has, fault, same_ty, enum_of, all_once, arms_nam
 use Rattle.rules.specs.declared.fault.Broken.TheVariants.{Mistyped, Arms as OfArms}
 use Rattle.rules.specs.declared.fault.TypeFault.{TypeFault}
 use Rattle.rules.specs.declared.shape.Shape.TheVariants.{Leaf as leaf, Plain as plain}
-use Rattle.rules.specs.declared.types.Types.{Types}
-use Rattle.rules.specs.Listed.{types_of}
+use Rattle.few.specs.declared.items.Few.{Few}
+use Rattle.few.specs.Listed.{listed}
 use Rattle.table.specs.Sorts.{head_of, arm_in, type_of}
 use Rattle.rules.specs.Rules.{ruled, parts_of, leaf_rule}
 use Rattle.rules.specs.Shapes.{shape_of}
@@ -115,15 +115,15 @@ module _ (ws : List Token) where
       exit_typed ws (Seen b s) p m σ τ h (ap (at ws) (sym (step_on p)) ∙ type_is (at ws (p + 1)) τ e) (subst (λ q. TypedAt ws (Seen b s) q (Ok (σ, m))) (two_on p) r) (sym d)
 
   -- parts in one scope
-  pub parts_done : (b p n : ℕ) (s : Entries) (t : Types) → n ≡ 0 → PartsBehind ws (Seen b s) p n (types_of t) (Ok (t, p))
-  parts_done b p zero s t z = ([], sym (append-nil (types_of t)), no_parts ws (Seen b s) p)
+  pub parts_done : (b p n : ℕ) (s : Entries) (t : Few Ty 4) → n ≡ 0 → PartsBehind ws (Seen b s) p n (listed t) (Ok (t, p))
+  parts_done b p zero s t z = ([], sym (append-nil (listed t)), no_parts ws (Seen b s) p)
   parts_done b p (suc n) s t z = absurd (omega arith)
 
   pub parts_break : (b p n : ℕ) (s : Entries) (before : List Ty) (f : TypeFault) → (n ≡ 0 → ⊥) → TypedAt ws (Seen b s) p (Err f) → PartsBehind ws (Seen b s) p n before (Err f)
   parts_break b p zero s before f z r = absurd (z refl)
   parts_break b p (suc n) s before f z r = first_part_fault ws (Seen b s) p n f r
 
-  pub parts_turn : (b p m n : ℕ) (s u : Entries) (τ : Ty) (before after : List Ty) (r : Result (Types × ℕ) TypeFault) → (n ≡ 0 → ⊥) → length before + n ≤ 4 → TypedAt ws (Seen b s) p (Ok (τ, m)) → take b u ≡ take b s
+  pub parts_turn : (b p m n : ℕ) (s u : Entries) (τ : Ty) (before after : List Ty) (r : Result (Few Ty 4 × ℕ) TypeFault) → (n ≡ 0 → ⊥) → length before + n ≤ 4 → TypedAt ws (Seen b s) p (Ok (τ, m)) → take b u ≡ take b s
       → after ≡ cond (ltb (length before) 4) (before ++ τ ∷ []) before → PartsBehind ws (Seen b u) m (n - 1) after r → PartsBehind ws (Seen b s) p n before r
   parts_turn b p m zero s u τ before after r z l a k g d = absurd (z refl)
   parts_turn b p m (suc n) s u τ before after (Ok x) z l a k g d =
@@ -174,17 +174,17 @@ module _ (ws : List Token) where
   all_parts : (before after τs : List Ty) → before ≡ [] → after ≡ before ++ τs → after ≡ τs
   all_parts before after τs e g = g ∙ ap (λ (υs : List Ty). υs ++ τs) e
 
-  pub plain_turn : (b p n m : ℕ) (s : Entries) (h : Head) (t₀ t : Types) (υs : List Ty) (τ : Ty) → at ws p ≡ Some (EXPR h) → shape_of h ≡ plain n → types_of t₀ ≡ [] → PartsBehind ws (Seen b s) (p + 1) n (types_of t₀) (Ok (t, m))
-      → υs ≡ types_of t → OnCard ws (λ C. has τ ≡ ruled C p h υs) → TypedAt ws (Seen b s) p (Ok (τ, m))
+  pub plain_turn : (b p n m : ℕ) (s : Entries) (h : Head) (t₀ t : Few Ty 4) (υs : List Ty) (τ : Ty) → at ws p ≡ Some (EXPR h) → shape_of h ≡ plain n → listed t₀ ≡ [] → PartsBehind ws (Seen b s) (p + 1) n (listed t₀) (Ok (t, m))
+      → υs ≡ listed t → OnCard ws (λ C. has τ ≡ ruled C p h υs) → TypedAt ws (Seen b s) p (Ok (τ, m))
   plain_turn b p n m s h t₀ t υs τ e i z d q g =
       node_typed ws (Seen b s) p m h d.0 τ e (plain_shape h n i).0 (parts_here (Seen b s) p n h (Ok (d.0, m)) i d.2)
-      (λ u C read. ap (ruled C p h) (sym (q ∙ all_parts (types_of t₀) (types_of t) d.0 z d.1)) ∙ sym (g u C read))
+      (λ u C read. ap (ruled C p h) (sym (q ∙ all_parts (listed t₀) (listed t) d.0 z d.1)) ∙ sym (g u C read))
 
-  pub plain_wrong : (b p n m : ℕ) (s : Entries) (h : Head) (t₀ t : Types) (υs : List Ty) (f : TypeFault) → at ws p ≡ Some (EXPR h) → shape_of h ≡ plain n → types_of t₀ ≡ [] → PartsBehind ws (Seen b s) (p + 1) n (types_of t₀) (Ok (t, m))
-      → υs ≡ types_of t → OnCard ws (λ C. fault (type_number f.broken) f.record ≡ ruled C p h υs) → TypedAt ws (Seen b s) p (Err f)
+  pub plain_wrong : (b p n m : ℕ) (s : Entries) (h : Head) (t₀ t : Few Ty 4) (υs : List Ty) (f : TypeFault) → at ws p ≡ Some (EXPR h) → shape_of h ≡ plain n → listed t₀ ≡ [] → PartsBehind ws (Seen b s) (p + 1) n (listed t₀) (Ok (t, m))
+      → υs ≡ listed t → OnCard ws (λ C. fault (type_number f.broken) f.record ≡ ruled C p h υs) → TypedAt ws (Seen b s) p (Err f)
   plain_wrong b p n m s h t₀ t υs f e i z d q g =
       node_broken ws (Seen b s) p m h d.0 f e (plain_shape h n i).0 (parts_here (Seen b s) p n h (Ok (d.0, m)) i d.2)
-      (λ u C read. ap (ruled C p h) (sym (q ∙ all_parts (types_of t₀) (types_of t) d.0 z d.1)) ∙ sym (g u C read))
+      (λ u C read. ap (ruled C p h) (sym (q ∙ all_parts (listed t₀) (listed t) d.0 z d.1)) ∙ sym (g u C read))
 
   -- MATCH
   pub match_break : (b p : ℕ) (s : Entries) (f : TypeFault) → at ws p ≡ Some (EXPR MATCH) → TypedAt ws (Seen b s) (p + 1) (Err f) → TypedAt ws (Seen b s) p (Err f)
@@ -254,11 +254,11 @@ module _ (ws : List Token) where
   pub arm_lost : (b p k : ℕ) (s : Entries) (r : Result (Ty × ℕ) TypeFault) → None ≡ arm_in (at ws p) → ArmAt ws (Seen b s) k p r
   arm_lost b p k s r e = no_arm_at ws (Seen b s) k p r (arm_not (at ws p) e)
 
-  pub arm_turn : (b p k n x c : ℕ) (s u : Entries) (t : Types) (υs : List Ty) (r : Result (Ty × ℕ) TypeFault) → at ws p ≡ Some (ARM n x c) → OfEnum ws k (λ E. fields_of (at E c) ≡ types_of t) → υs ≡ types_of t
-      → scope_of (take (b + length υs) u) ≡ bind x υs (scope_of (take b s)) → TypedAt ws (Seen (b + length (types_of t)) u) (p + 1) r → ArmAt ws (Seen b s) k p r
+  pub arm_turn : (b p k n x c : ℕ) (s u : Entries) (t : Few Ty 4) (υs : List Ty) (r : Result (Ty × ℕ) TypeFault) → at ws p ≡ Some (ARM n x c) → OfEnum ws k (λ E. fields_of (at E c) ≡ listed t) → υs ≡ listed t
+      → scope_of (take (b + length υs) u) ≡ bind x υs (scope_of (take b s)) → TypedAt ws (Seen (b + length (listed t)) u) (p + 1) r → ArmAt ws (Seen b s) k p r
   arm_turn b p k n x c s u t υs r h f q g d =
-      arm_typed ws (Seen b s) k p n x c (types_of t) r h f
-      (subst (λ Γ. TypedAt ws Γ (suc p) r) (ap (λ (σs : List Ty). scope_of (take (b + length σs) u)) (sym q) ∙ g ∙ ap (λ (σs : List Ty). bind x σs (scope_of (take b s))) q) (on (Seen (b + length (types_of t)) u) p r d))
+      arm_typed ws (Seen b s) k p n x c (listed t) r h f
+      (subst (λ Γ. TypedAt ws Γ (suc p) r) (ap (λ (σs : List Ty). scope_of (take (b + length σs) u)) (sym q) ∙ g ∙ ap (λ (σs : List Ty). bind x σs (scope_of (take b s))) q) (on (Seen (b + length (listed t)) u) p r d))
 
   -- the other arms
   close_is : (o : Option Token) → true ≡ is_close o → o ≡ Some CLOSE
@@ -329,7 +329,7 @@ pushed before after τ (suc n) z l g =
 pub bound_one : (b l : ℕ) (r : Bool) → r ≡ ltb b l → b < l → r ≡ true
 bound_one b l r e h = e ∙ lt-ltb b l h
 
-pub few_types : (t : Types) → length (types_of t) ≤ 4
+pub few_types : (t : Few Ty 4) → length (listed t) ≤ 4
 few_types t = let e = length-take-le t.len t.list (let w = t.whole in let m = t.room in omega arith) in let m = t.room in omega arith
 
 pub bound_all : (b l n : ℕ) (r : Bool) → r ≡ (leb n 65536 && leb (b + n) l) → n ≤ 4 → b + n ≤ l → r ≡ true

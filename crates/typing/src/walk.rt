@@ -6,7 +6,7 @@ ghost use Rattle.table.specs.declared.token.Pair.TheVariants.{Val as VAL};
 ghost use Rattle.numbering.specs.Views.{tokens_in};
 ghost use Rattle.scope.specs.Bound.{scope_of};
 ghost use Rattle.rules.specs.declared.shape.Shape.TheVariants.{Plain};
-ghost use Rattle.rules.specs.Listed.{types_of};
+ghost use Rattle.few.specs.Listed.{listed};
 ghost use Rattle.rules.specs.Shapes.{shape_of};
 ghost use Rattle.rules.specs.Typed.{TypedAt, PartsBehind, ArmAt, ArmsAt};
 
@@ -129,11 +129,11 @@ fn parts(
     bound: usize,
 ) -> Result<(Types, usize), TypeFault>
     requires within { at ≤ length (tokens_in card.now) }
-    requires few { length (types_of types) + n ≤ 4 }
+    requires few { length (listed types) + n ≤ 4 }
     requires room { bound + 4 * (length (tokens_in card.now) - at) ≤ length scope.old }
     ensures onward { IfOk result (λ x. (at ≤ x.1) × (x.1 ≤ length (tokens_in card.now))) }
     ensures kept { take bound scope.new ≡ take bound scope.old }
-    ensures is { PartsBehind (tokens_in card.now) (scope_of (take bound scope.old)) at n (types_of types) result }
+    ensures is { PartsBehind (tokens_in card.now) (scope_of (take bound scope.old)) at n (listed types) result }
 {
     if n == 0 {
         return Ok((types, at));

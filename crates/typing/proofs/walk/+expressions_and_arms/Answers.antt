@@ -4,7 +4,7 @@ use Rattle.rules.specs.Typed.{TypedAt}
 use Rattle.std.proofs.lemmas.Result.{err_from_is_err_and}
 use Rattle.numbering.specs.Views.{tokens_in}
 use Rattle.numbering.proofs.Indexed.{at_below}
-use Rattle.rules.specs.Listed.{types_of}
+use Rattle.few.specs.Listed.{listed}
 use Rattle.table.specs.Sorts.{head_of, type_of}
 use Rattle.rules.proofs.Backs.{stands, arm_is}
 use Rattle.typing.proofs.Turns.{Seen, pushed, bound_one, bound_all, few_types, same_so, not_same, fewer, later, no_sooner, no_head, leaf_turn, leaf_break, val_break, val_turn, exit_lost, exit_break, exit_wrong, exit_turn, parts_done, parts_break, parts_turn, few_parts, plain_break, plain_turn, plain_wrong, match_break, match_no_enum, match_no_cases, match_misarmed, match_first_break, match_other_break, match_turn, match_differ, arm_lost, arm_turn, closed_below, arms_done, arms_break, arms_other_break, arms_turn}
@@ -63,7 +63,7 @@ plain-parts-requires t c =
     let h = at_below (tokens_in c.args.card.now) c.args.at _ c.requires.here in
     let l = c.args.card.now.few in
     let n : c.args.n ≤ 4 = few_parts (tokens_in c.args.card.now) c.args.at c.args.head c.args.n c.args.card.now.limited c.requires.here c.requires.shape in
-    let e : length (types_of c.new.result) + c.args.n ≤ 4 = rw c.new.ensures (omega arith) in
+    let e : length (listed c.new.result) + c.args.n ≤ 4 = rw c.new.ensures (omega arith) in
     search rules
 
 pub expression-overflow_add-result : goal.expression-overflow_add-result
@@ -167,13 +167,13 @@ parts-returns-in_err-ty t c =
     rw (p.1, p.2) (record {
       onward = tt;
       kept = c.in_err-ty.ensures.kept;
-      is = parts_break (tokens_in c.args.card.now) c.args.bound c.args.at c.args.n c.args.scope.now (types_of c.args.types) _ c.if-n-eq0.false c.in_err-ty.ensures.is;
+      is = parts_break (tokens_in c.args.card.now) c.args.bound c.args.at c.args.n c.args.scope.now (listed c.args.types) _ c.if-n-eq0.false c.in_err-ty.ensures.is;
     })
 
 pub parts-parts-requires : goal.parts-parts-requires
 parts-parts-requires t c =
     let f = c.in_ok-ty.ensures in
-    let e = pushed (types_of c.args.types) (types_of c.push.new.self) c.in_ok-ty.ty c.args.n c.if-n-eq0.false c.requires.few c.push.ensures in
+    let e = pushed (listed c.args.types) (listed c.push.new.self) c.in_ok-ty.ty c.args.n c.if-n-eq0.false c.requires.few c.push.ensures in
     search rules
 
 pub parts-returns : goal.parts-returns
@@ -182,7 +182,7 @@ parts-returns t c =
     record {
       onward = no_sooner c.args.at c.in_ok-ty.next _ c.parts.result (omega (arith, f.onward)) c.parts.ensures.onward;
       kept = c.parts.ensures.kept ∙ f.kept;
-      is = parts_turn (tokens_in c.args.card.now) c.args.bound c.args.at c.in_ok-ty.next c.args.n c.args.scope.now c.expression.new.scope c.in_ok-ty.ty (types_of c.args.types) (types_of c.push.new.self) c.parts.result c.if-n-eq0.false c.requires.few f.is f.kept c.push.ensures c.parts.ensures.is;
+      is = parts_turn (tokens_in c.args.card.now) c.args.bound c.args.at c.in_ok-ty.next c.args.n c.args.scope.now c.expression.new.scope c.in_ok-ty.ty (listed c.args.types) (listed c.push.new.self) c.parts.result c.if-n-eq0.false c.requires.few f.is f.kept c.push.ensures c.parts.ensures.is;
     }
 
 pub plain-returns-in_err-types : goal.plain-returns-in_err-types
@@ -310,7 +310,7 @@ arm-returns t c =
     let l = c.args.card.now.few in
     let n : length c.slice.result.now ≤ 4 = rw c.slice.ensures (few_types c.fields-types.result) in
     let full : c.bind_all.result ≡ true = bound_all c.args.bound (length c.args.scope.now) (length c.slice.result.now) c.bind_all.result c.bind_all.ensures.told n (omega arith) in
-    let m : c.len.result ≡ length (types_of c.fields-types.result) = c.len.ensures in
+    let m : c.len.result ≡ length (listed c.fields-types.result) = c.len.ensures in
     record {
       onward = later c.args.at (c.args.at + 1) _ c.expression.result (omega arith) c.expression.ensures.onward;
       kept = fewer c.args.bound c.len.result c.expression.new.scope c.bind_all.new.entries c.expression.ensures.kept ∙ c.bind_all.ensures.below;
