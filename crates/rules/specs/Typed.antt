@@ -1,5 +1,5 @@
 -- What typing at a place answers, for every card that the tokens spell.
-use Rattle.std.specs.Prelude.{◌≡◌, ℕ, Bool, ◌&&◌, List, ◌∷◌, ◌++◌, drop, Some, Ok, Err, Option, Result}
+use Rattle.std.specs.Prelude.{◌≡◌, ℕ, Bool, ◌&&◌, List, ◌∷◌, drop, Some, Ok, Err, Option, Result}
 use Rattle.battery.specs.declared.Ty.{Ty}
 use Rattle.battery.specs.Tree.{Expr, Exprs, Arms, no_arm, arm, Scope, bind, Card, at, ◌▸◌}
 use Rattle.table.specs.declared.token.Token.{Token}
