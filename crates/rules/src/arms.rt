@@ -38,6 +38,7 @@ impl Iterator for ArmsFrom<'_, '_> {
     }
 }
 
+// How many fields a case has, if it is there.
 fn fields_of(card: &Layout<'_>, of: u16, case: u8) -> Option<u8>
     ensures { result ≡ fields_in (tokens_in card.now) of case }
 {
@@ -51,23 +52,27 @@ fn names_fit(card: &Layout<'_>, of: u16, arm: Arm) -> bool
     fields_of(card, of, arm.case) == Some(arm.names)
 }
 
-fn taken_once(arms: ArmsFrom<'_, '_>, case: usize) -> bool
-    ensures { result ≡ taken_once (arms_left arms.entry) case }
-{
-    arms.filter(|arm| arm.case as usize == case).count() == 1
-}
+impl ArmsFrom<'_, '_> {
+    // One of them is of a case.
+    fn taken_once(self, case: usize) -> bool
+        ensures { result ≡ taken_once (arms_left self.entry) case }
+    {
+        self.filter(|arm| arm.case as usize == case).count() == 1
+    }
 
-fn each_once(arms: ArmsFrom<'_, '_>, cases: usize) -> bool
-    ensures { result ≡ list_all (taken_once (arms_left arms.entry)) (range_with_len 0 cases) }
-{
-    (0..cases).all(|case| taken_once(arms, case))
-}
+    fn each_once(self, cases: usize) -> bool
+        ensures { result ≡ list_all (taken_once (arms_left self.entry)) (range_with_len 0 cases) }
+    {
+        (0..cases).all(|case| self.taken_once(case))
+    }
 
-fn all_named(mut arms: ArmsFrom<'_, '_>, of: u16) -> bool
-    ensures { result ≡ list_all (names_fit (tokens_in arms.entry.card.now) of) (arms_left arms.entry) }
-{
-    let card = arms.card;
-    arms.all(|arm| names_fit(card, of, arm))
+    // Each is of a case of the enum, with as many names as fields.
+    fn all_named(mut self, of: u16) -> bool
+        ensures { result ≡ list_all (names_fit (tokens_in self.entry.card.now) of) (arms_left self.entry) }
+    {
+        let card = self.card;
+        self.all(|arm| names_fit(card, of, arm))
+    }
 }
 
 // One arm for each of the cases below a number, all of the enum and with as many names as fields.
@@ -75,5 +80,5 @@ pub fn arms_fit(card: &Layout<'_>, arm: usize, of: u16, cases: usize) -> bool
     ensures { FitAt (tokens_in card.now) of cases arm result }
 {
     let arms = ArmsFrom { card, place: arm };
-    each_once(arms, cases) && all_named(arms, of)
+    arms.each_once(cases) && arms.all_named(of)
 }
