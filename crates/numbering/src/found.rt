@@ -1,5 +1,5 @@
 ghost use Rattle.std.specs.Prelude.{◌≡◌, ◌<◌, [], ◌∷◌, ◌++◌, length};
-ghost use Rattle.numbering.specs.Listed.{listed};
+ghost use Rattle.few.specs.Listed.{listed};
 ghost use Rattle.numbering.specs.Places.{firsts_in, cases_in, functions_in};
 
 use crate::Tokens;

@@ -3,7 +3,7 @@ mod build;
 
 ghost use Rattle.std.specs.Prelude.{◌≡◌, ◌≤◌, length};
 ghost use Rattle.numbering.specs.Limits.{AllLimited};
-ghost use Rattle.numbering.specs.Listed.{listed};
+ghost use Rattle.few.specs.Listed.{listed};
 ghost use Rattle.numbering.specs.Places.{firsts_in, cases_in, functions_in};
 ghost use Rattle.numbering.specs.Ends.{Ends};
 

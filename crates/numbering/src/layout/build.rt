@@ -1,6 +1,6 @@
 ghost use Rattle.std.specs.Prelude.{◌≡◌, length};
 ghost use Rattle.numbering.specs.Ends.{Ends};
-ghost use Rattle.numbering.specs.Listed.{listed};
+ghost use Rattle.few.specs.Listed.{listed};
 ghost use Rattle.numbering.specs.Places.{functions_in};
 ghost use Rattle.numbering.specs.Views.{tokens_in};
 
