@@ -36,28 +36,25 @@ impl Layout<'_> {
         ensures { result ≡ case_count (tokens_in self.now) k }
     {
         let first = place_at(&self.firsts, k as usize)?;
-        Some(self.next_first(k).saturating_sub(first))
+        Some((first..self.next_first(k)).len())
     }
 
     pub fn case(&self, k: u16, c: u8) -> Option<usize>
         ensures { result ≡ case_place (tokens_in self.now) k c }
     {
         let first = place_at(&self.firsts, k as usize)?;
-        if (c as usize) < self.next_first(k).saturating_sub(first) {
-            place_at(&self.cases, first + c as usize)
-        } else {
-            None
-        }
+        let place = (first..self.next_first(k)).nth(c as usize)?;
+        place_at(&self.cases, place)
     }
 
     // The place after what stands at a place: past the tokens, their end.
     pub fn end(&self, place: usize) -> usize
         ensures { result ≡ (if nat_lt place (length (tokens_in self.now)) then slice_index (ends_in self.now) place else length (tokens_in self.now)) }
     {
-        if place < self.tokens.len() {
-            self.ends[place] as usize
-        } else {
-            self.tokens.len()
+        let all = self.tokens.len();
+        match self.ends[..all].get(place) {
+            Some(&end) => end as usize,
+            None => all,
         }
     }
 }
