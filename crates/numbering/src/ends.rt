@@ -26,8 +26,7 @@ pub(crate) fn ends(tokens: Tokens<'_>) -> [u16; 512]
             ends: &ends,
             place: i as u16,
         };
-        let end = filled.past(*token);
-        ends[i] = end;
+        ends[i] = filled.past(*token);
     }
     ends
 }

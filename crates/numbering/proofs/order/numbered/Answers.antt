@@ -5,13 +5,6 @@ use Rattle.numbering.specs.Counts.{counted}
 use Rattle.numbering.proofs.There.{Within, within_more, in_order, out_of_order, all_in_order}
 use Rattle.numbering.proofs.order.numbered.Goals as goal
 
-pub loop-i-init : goal.loop-i-init
-loop-i-init c =
-    let e = c.none-counts.ensures in (
-      subst (Within 0) (sym e) (omega arith, omega arith, omega arith),
-      λ t C read. ap (misnumbered C c.args.texts 0 none_seen) (sym c.tokens-tokens.ensures) ∙ ap (λ s. misnumbered C c.args.texts 0 s c.tokens-tokens.result.now) (sym e),
-    )
-
 pub loop-i-preserved : goal.loop-i-preserved
 loop-i-preserved c =
     let ws = c.tokens-tokens.result.now in
