@@ -1,5 +1,5 @@
 -- The tokens that are left are the first, and the table is right behind them.
-use Rattle.std.proofs.Common.{◌≡◌, ◌≤◌, length, take}
+use Rattle.std.proofs.Common.{◌≡◌, length, take}
 use Rattle.numbering.proofs.Steps.{EndsFrom}
 use Rattle.numbering.proofs.ends.ends.Given as goal
 

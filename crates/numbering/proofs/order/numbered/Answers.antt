@@ -1,8 +1,7 @@
 -- Each turn tests one token by the counts of those before.
-use Rattle.std.proofs.Common.{◌+◌, sym, ap, ◌∙◌, subst, arith}
-use Rattle.numbering.specs.Numbering.{none_seen, misnumbered}
+use Rattle.std.proofs.Common.{◌+◌, sym, ◌∙◌, subst}
 use Rattle.numbering.specs.Counts.{counted}
-use Rattle.numbering.proofs.There.{Within, within_more, in_order, out_of_order, all_in_order}
+use Rattle.numbering.proofs.There.{Within, within_more, in_order, out_of_order}
 use Rattle.numbering.proofs.order.numbered.Goals as goal
 
 pub loop-i-preserved : goal.loop-i-preserved
@@ -19,8 +18,3 @@ pub returns-then-not-in_order : goal.returns-then-not-in_order
 returns-then-not-in_order c t C read =
     c.loop-i.invariant.1 t C read
     ∙ out_of_order C c.args.texts c.tokens-tokens.result.now c.loop-i.i (counted c.loop-i.counts) c.loop-i-test.true (sym c.if-not-in_order.true ∙ c.in_order.ensures t C read)
-
-pub returns : goal.returns
-returns c t C read =
-    c.loop-i.invariant.1 t C read
-    ∙ all_in_order C c.args.texts c.tokens-tokens.result.now c.loop-i.i (counted c.loop-i.counts) c.loop-i-test.false
