@@ -13,9 +13,6 @@ use Rattle.numbering.proofs.Indexed.{at_in, at_below, at_take}
 pub times_more : (f : ℕ → ℕ) (n i q : ℕ) → i < n → times (n - (i + 1)) f (f q) ≡ times (n - i) f q
 times_more f n i q h = let e : n - i ≡ suc (n - (i + 1)) = omega arith in sym (ap (λ k. times k f q) e)
 
-pub times_done : (f : ℕ → ℕ) (n i q : ℕ) → n ≤ i → times (n - i) f q ≡ q
-times_done f n i q h = let e : n - i ≡ 0 = omega arith in ap (λ k. times k f q) e
-
 -- what is written at a place is not read from behind a later one, nor from behind it
 pub look_set : (ws : List Token) (es : List ℕ) (q v p : ℕ) → q ≤ p → look ws (set es q v) p ≡ look ws es p
 look_set ws es q v p h = fun_ext (λ m. go m (ltb p m) refl)
@@ -30,9 +27,6 @@ look_set ws es q v p h = fun_ext (λ m. go m (ltb p m) refl)
 -- the table is right from place i on
 abbrev pub EndsFrom : List Token → List ℕ → ℕ → Type 0
 EndsFrom ws es i = (p : ℕ) (w : Token) → i ≤ p → at ws p ≡ Some w → get_or es p 0 ≡ past ws (look ws es p) p w
-
-pub past_last : {P : Type 0} (ws : List Token) (p : ℕ) (w : Token) → length ws ≤ p → at ws p ≡ Some w → P
-past_last ws p w h e = absurd (omega (arith, at_below ws p w e))
 
 -- what is written at a place, where those behind it are right
 ends_more : (ws : List Token) (es : List ℕ) (k v : ℕ) (u : Token) → at ws k ≡ Some u → k < length es

@@ -8,7 +8,11 @@ pub note-requires : goal.note-requires
 note-requires c =
     let us = take c.loop-i.i c.args.tokens.list.now in
     let l = length-take-le c.loop-i.i c.args.tokens.list.now (omega arith) in
-    (omega (arith, ap length c.loop-i.invariant.0, firsts_few 0 us), (omega (arith, ap length c.loop-i.invariant.1, cases_few 0 us), omega (arith, ap length c.loop-i.invariant.2, functions_few 0 us)))
+    record {
+      firsts = omega (arith, ap length c.loop-i.invariant.0, firsts_few 0 us);
+      cases = omega (arith, ap length c.loop-i.invariant.1, cases_few 0 us);
+      functions = omega (arith, ap length c.loop-i.invariant.2, functions_few 0 us);
+    }
 
 pub loop-i-preserved : goal.loop-i-preserved
 loop-i-preserved c =
