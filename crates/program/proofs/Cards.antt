@@ -31,24 +31,18 @@ pub as_spelt : {t bytes : List ℕ} {ws us : List Token} → bytes ≡ t → us 
 as_spelt {t = t} {ws = ws} same as_many card = ap₂ (λ bs vs. Some (bs, vs)) same as_many ∙ sym (ap (λ (o : Option Card). o ▸ λ C. Some (t, ws)) card.1)
 
 -- by the answer of the test of places on the tokens
-module _ (t : List ℕ) (ws : List Token) (one_or_more : 0 < length ws) (r : Result (Unit {0}) Misplaced) (tested : found_by r ≡ misplaced 0 [] ws) where
+module _ (t : List ℕ) (ws : List Token) (one_or_more : 0 < length ws) where
   no_card : (x : ℕ × Option ℕ) → misplaced 0 [] ws ≡ Some x → (o : Option Card) → card_of t ws ≡ o → o ≡ None
   no_card x e None q = refl
   no_card x e (Some C) q = never (sym ((spelt_unless_misplaced t ws one_or_more).1 (C, card_sound t ws C q)) ∙ e)
 
-  pub none_spelt : None ≡ result_ok r → None ≡ if_spelt t ws
-  none_spelt wrong = go r wrong tested
-    where
-      go : (q : Result (Unit {0}) Misplaced) → None ≡ result_ok q → found_by q ≡ misplaced 0 [] ws → None ≡ if_spelt t ws
-      go (Ok u) wrong e = never wrong
-      go (Err m) wrong e = sym (ap (λ (o : Option Card). o ▸ λ C. Some (t, ws)) (no_card _ (sym e) (card_of t ws) refl))
+  pub none_spelt : (r : Result (Unit {0}) Misplaced) → found_by r ≡ misplaced 0 [] ws → None ≡ result_ok r → None ≡ if_spelt t ws
+  none_spelt (Ok u) e wrong = never wrong
+  none_spelt (Err m) e wrong = sym (ap (λ (o : Option Card). o ▸ λ C. Some (t, ws)) (no_card _ (sym e) (card_of t ws) refl))
 
-  pub one_spelt : {u : Unit {0}} → Some u ≡ result_ok r → Spells t ws
-  one_spelt right = go r right tested
-    where
-      go : (q : Result (Unit {0}) Misplaced) {u : Unit {0}} → Some u ≡ result_ok q → found_by q ≡ misplaced 0 [] ws → Spells t ws
-      go (Ok u) right e = let x = (spelt_unless_misplaced t ws one_or_more).0 (sym e) in (x.0, card_complete t ws x.0 x.1)
-      go (Err m) right e = never (sym right)
+  pub one_spelt : (r : Result (Unit {0}) Misplaced) {u : Unit {0}} → found_by r ≡ misplaced 0 [] ws → Some u ≡ result_ok r → Spells t ws
+  one_spelt (Ok u) e right = let x = (spelt_unless_misplaced t ws one_or_more).0 (sym e) in (x.0, card_complete t ws x.0 x.1)
+  one_spelt (Err m) e right = never (sym right)
 
 -- what an image spells, by its header and its records
 module _ (image : List ℕ) (n : ℕ) (passed : header_fault image ≡ None) (counted : n ≡ count_of image) where

@@ -1,11 +1,11 @@
 -- The place of a function is that of its DEF, which is among the tokens.
 use Rattle.std.proofs.Common.{◌≡◌, ◌<◌, Some, sym, refl, ap, ◌∙◌, subst, arith}
-use Rattle.std.proofs.lemmas.List.{length-take-le}
 use Rattle.battery.specs.Tree.{at}
 use Rattle.table.specs.Sorts.{parameter_count}
 use Rattle.program.specs.Views.{text_in, tokens_in}
 use Rattle.program.specs.Called.{OfFunction}
 use Rattle.program.proofs.Bodies.{none_called, one_called, no_def, def_below}
+use Rattle.program.proofs.Spelt.{few_tokens}
 use Rattle.program.proofs.program.Program.function.Goals as goal
 
 -- the token there is a DEF
@@ -15,8 +15,7 @@ counted c = c.in_ok-parameters.ensures ∙ ap parameter_count c.in_ok-token.ensu
 -- the DEF stands below the end of the tokens
 below : (c : goal.In_ok-parameters) → c.in_ok-place.place < 512
 below c =
-    let t = c.args.self.now.tokens in
-    let l = length-take-le t.len t.items (omega arith) in
+    let few = few_tokens c.args.self.now in
     let b = def_below (tokens_in c.args.self.now) c.in_ok-place.place _ (counted c) in
     omega arith
 
