@@ -51,7 +51,7 @@ impl Layout<'_> {
     pub fn end(&self, place: usize) -> usize
         ensures { result ≡ (if nat_lt place (length (tokens_in self.now)) then slice_index (ends_in self.now) place else length (tokens_in self.now)) }
     {
-        let all = self.tokens.len();
+        let all = self.tokens.list.len();
         match self.ends[..all].get(place) {
             Some(&end) => end as usize,
             None => all,
