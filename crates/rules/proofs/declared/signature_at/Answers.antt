@@ -8,25 +8,25 @@ use Rattle.rules.proofs.declared.signature_at.Goals as goal
 pub overflow_add-place : goal.overflow_add-place
 overflow_add-place c =
     let h = stands (tokens_in c.args.card.now) c.args.place parameter_count _ refl c.in_ok-n.ensures in
-    let l = c.args.card.now.few in
+    let l = c.args.card.now.tokens.few in
     search rules
 
 pub overflow_add-place-2 : goal.overflow_add-place-2
 overflow_add-place-2 c =
     let h = stands (tokens_in c.args.card.now) c.args.place parameter_count _ refl c.in_ok-n.ensures in
-    let l = c.args.card.now.few in
+    let l = c.args.card.now.tokens.few in
     search rules
 
 pub overflow_add-place-3 : goal.overflow_add-place-3
 overflow_add-place-3 c =
     let h = stands (tokens_in c.args.card.now) c.args.place parameter_count _ refl c.in_ok-n.ensures in
-    let l = c.args.card.now.few in
+    let l = c.args.card.now.tokens.few in
     search rules
 
 pub more_types-parameters-requires : goal.more_types-parameters-requires
 more_types-parameters-requires c =
     let h = stands (tokens_in c.args.card.now) c.args.place parameter_count _ refl c.in_ok-n.ensures in
-    let l = c.args.card.now.few in
+    let l = c.args.card.now.tokens.few in
     search rules
 
 pub returns : goal.returns

@@ -11,20 +11,20 @@ returns-in_default c = no_place (tokens_in c.args.card.now) c.args.number (Ok tt
 pub overflow_add-place : goal.overflow_add-place
 overflow_add-place c =
     let h = function_below (tokens_in c.args.card.now) 0 c.args.number c.in-Some.place (sym c.in-Some.ensures) in
-    let l = c.args.card.now.few in
+    let l = c.args.card.now.tokens.few in
     search rules
 
 pub overflow_add-place-2 : goal.overflow_add-place-2
 overflow_add-place-2 c =
     let h = function_below (tokens_in c.args.card.now) 0 c.args.number c.in-Some.place (sym c.in-Some.ensures) in
-    let l = c.args.card.now.few in
+    let l = c.args.card.now.tokens.few in
     let n = few_types c.in-Some-function_types.signature.parameters in
     let m = c.len-n.ensures in
     search rules
 
 pub expression-requires : goal.expression-requires
 expression-requires c =
-    let l = c.args.card.now.few in
+    let l = c.args.card.now.tokens.few in
     let n = few_types c.in-Some-function_types.signature.parameters in
     let m = c.len-n.ensures in
     search rules

@@ -13,63 +13,63 @@ use Rattle.typing.proofs.walk.+expressions_and_arms.Goals as goal
 pub val-overflow_add-at : goal.val-overflow_add-at
 val-overflow_add-at t c =
     let h = at_below (tokens_in c.args.card.now) c.args.at _ c.requires.here in
-    let l = c.args.card.now.few in
+    let l = c.args.card.now.tokens.few in
     search rules
 
 pub exit-overflow_add-at : goal.exit-overflow_add-at
 exit-overflow_add-at t c =
     let h = at_below (tokens_in c.args.card.now) c.args.at _ c.requires.here in
-    let l = c.args.card.now.few in
+    let l = c.args.card.now.tokens.few in
     search rules
 
 pub plain-overflow_add-at : goal.plain-overflow_add-at
 plain-overflow_add-at t c =
     let h = at_below (tokens_in c.args.card.now) c.args.at _ c.requires.here in
-    let l = c.args.card.now.few in
+    let l = c.args.card.now.tokens.few in
     search rules
 
 pub choice-overflow_add-at : goal.choice-overflow_add-at
 choice-overflow_add-at t c =
     let h = at_below (tokens_in c.args.card.now) c.args.at _ c.requires.here in
-    let l = c.args.card.now.few in
+    let l = c.args.card.now.tokens.few in
     search rules
 
 pub exit-overflow_add-at-2 : goal.exit-overflow_add-at-2
 exit-overflow_add-at-2 t c =
     let h = at_below (tokens_in c.args.card.now) c.args.at _ c.requires.here in
-    let l = c.args.card.now.few in
+    let l = c.args.card.now.tokens.few in
     search rules
 
 pub val-expression-requires : goal.val-expression-requires
 val-expression-requires t c =
     let h = at_below (tokens_in c.args.card.now) c.args.at _ c.requires.here in
-    let l = c.args.card.now.few in
+    let l = c.args.card.now.tokens.few in
     search rules
 
 pub choice-expression-requires : goal.choice-expression-requires
 choice-expression-requires t c =
     let h = at_below (tokens_in c.args.card.now) c.args.at _ c.requires.here in
-    let l = c.args.card.now.few in
+    let l = c.args.card.now.tokens.few in
     search rules
 
 pub exit-expression-requires : goal.exit-expression-requires
 exit-expression-requires t c =
     let h = stands (tokens_in c.args.card.now) (c.args.at + 1) type_of _ refl c.in-Some.ensures in
-    let l = c.args.card.now.few in
+    let l = c.args.card.now.tokens.few in
     search rules
 
 pub plain-parts-requires : goal.plain-parts-requires
 plain-parts-requires t c =
     let h = at_below (tokens_in c.args.card.now) c.args.at _ c.requires.here in
-    let l = c.args.card.now.few in
-    let n : c.args.n ≤ 4 = few_parts (tokens_in c.args.card.now) c.args.at c.args.head c.args.n c.args.card.now.limited c.requires.here c.requires.shape in
+    let l = c.args.card.now.tokens.few in
+    let n : c.args.n ≤ 4 = few_parts (tokens_in c.args.card.now) c.args.at c.args.head c.args.n c.args.card.now.tokens.limited c.requires.here c.requires.shape in
     let e : length (types_of c.new.result) + c.args.n ≤ 4 = rw c.new.ensures (omega arith) in
     search rules
 
 pub expression-overflow_add-result : goal.expression-overflow_add-result
 expression-overflow_add-result t c =
     let h = stands (tokens_in c.args.card.now) c.args.at head_of _ refl c.in-Some.ensures in
-    let l = c.args.card.now.few in
+    let l = c.args.card.now.tokens.few in
     search rules
 
 pub expression-returns-in_default : goal.expression-returns-in_default
@@ -293,13 +293,13 @@ arm-returns-in_default t c =
 pub arm-overflow_add-at : goal.arm-overflow_add-at
 arm-overflow_add-at t c =
     let h = at_below (tokens_in c.args.card.now) c.args.at _ (arm_is _ _ c.in-Some.ensures) in
-    let l = c.args.card.now.few in
+    let l = c.args.card.now.tokens.few in
     search rules
 
 pub arm-expression-requires : goal.arm-expression-requires
 arm-expression-requires t c =
     let h = at_below (tokens_in c.args.card.now) c.args.at _ (arm_is _ _ c.in-Some.ensures) in
-    let l = c.args.card.now.few in
+    let l = c.args.card.now.tokens.few in
     let n = few_types c.fields-types.result in
     let m = c.len.ensures in
     search rules
@@ -307,7 +307,7 @@ arm-expression-requires t c =
 pub arm-returns : goal.arm-returns
 arm-returns t c =
     let h = at_below (tokens_in c.args.card.now) c.args.at _ (arm_is _ _ c.in-Some.ensures) in
-    let l = c.args.card.now.few in
+    let l = c.args.card.now.tokens.few in
     let n : length c.slice.result.now ≤ 4 = rw c.slice.ensures (few_types c.fields-types.result) in
     let full : c.bind_all.result ≡ true = bound_all c.args.bound (length c.args.scope.now) (length c.slice.result.now) c.bind_all.result c.bind_all.ensures.told n (omega arith) in
     let m : c.len.result ≡ length (types_of c.fields-types.result) = c.len.ensures in
@@ -320,7 +320,7 @@ arm-returns t c =
 pub arms-overflow_add-result : goal.arms-overflow_add-result
 arms-overflow_add-result t c =
     let h = closed_below (tokens_in c.args.card.now) c.args.at c.if-closes_at.ensures in
-    let l = c.args.card.now.few in
+    let l = c.args.card.now.tokens.few in
     search rules
 
 pub arms-returns-then-closes_at : goal.arms-returns-then-closes_at
