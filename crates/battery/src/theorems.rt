@@ -11,16 +11,14 @@ pub fn rules_hold()
     ensures one { OneTree }
     ensures shows { TypedValuesShow }
     ensures divides { DivisionDropsTheFraction }
-{
-}
+{}
 
 // A judgement comes to a value exactly when one of the published rules gives it, and a comparison
 // exactly when a clause of eq does.
 pub fn as_published()
     ensures evaluates { EvaluatesAsPublished }
     ensures compares { ComparesAsPublished }
-{
-}
+{}
 
 pub fn worked_cases()
     ensures near { KNear }
@@ -31,5 +29,4 @@ pub fn worked_cases()
     ensures overlong { Joins25 }
     ensures equal { EqualMakes }
     ensures itself { CallsItself }
-{
-}
+{}

@@ -1,6 +1,6 @@
 -- Arms one by one, and a match.
 use Rattle.std.proofs.Common.{◌≡◌, ℕ, suc, ◌+◌, ◌-◌, ◌<◌, ◌≤◌, List, length, get_or, Some, None, Option, sym, refl, ap, ◌∙◌, subst, add-one, arith, eq-eqb, ne_eqb}
-use Rattle.std.proofs.lemmas.List.{length-take-le}
+use Rattle.program.proofs.Spelt.{few_tokens}
 use Rattle.battery.specs.declared.value.Value.{Value}
 use Rattle.battery.specs.Tree.{Expr, Match, Arms, no_arm, arm, at, bind, ◌▸◌}
 use Rattle.battery.specs.Cell.{Cell}
@@ -53,7 +53,7 @@ module _ (k : Program) where
 
   armed_by : (i : ℕ) (a : Arm) → FirstArm (text_in k) (tokens_in k) (ends_in k) i → at (tokens_in k) i ≡ Some (ARM a.names a.first a.case) → Armed i a
   armed_by i a (an_arm {n} {x} {c} s l b m q) e =
-      let w = length-take-le k.len k.tokens (omega arith) in
+      let w = few_tokens k in
       let p : n ≡ a.names = cc in
       let r : x ≡ a.first = cc in
       let v : c ≡ a.case = cc in

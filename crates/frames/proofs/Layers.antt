@@ -1,6 +1,6 @@
 -- What stands at a place where an expression begins.
 use Rattle.std.proofs.Common.{◌≡◌, ℕ, suc, ◌+◌, ◌<◌, ◌≤◌, Some, refl, ap, add-one, arith}
-use Rattle.std.proofs.lemmas.List.{length-take-le}
+use Rattle.program.proofs.Spelt.{few_tokens}
 use Rattle.battery.specs.Tree.{Exprs, ∅, place, at}
 use Rattle.battery.specs.Rules.{first}
 use Rattle.table.specs.declared.token.Token.TheVariants.{Expr as EXPR}
@@ -26,7 +26,7 @@ module _ (k : Program) where
   standing i s = headed (text_in k) (tokens_in k) (ends_in k) k.ended i s
 
   pub within : (i : ℕ) → Start k i → i < 512
-  within i s = let h = (standing i s).within in let l = length-take-le k.len k.tokens (omega arith) in omega arith
+  within i s = let h = (standing i s).within in let l = few_tokens k in omega arith
 
   pub head_is : (i : ℕ) (s : Start k i) → head_at k i ≡ Some (standing i s).head
   head_is i s = ap head_of (standing i s).stands

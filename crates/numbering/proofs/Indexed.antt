@@ -1,7 +1,5 @@
 -- What stands at an index of a list: there below its length, and nothing past it.
-use Rattle.std.proofs.Common.{◌≡◌, ℕ, zero, suc, ◌<◌, ◌≤◌, List, [], ◌∷◌, length, get_or, take, Some, None, Option, Bor, sym, ap, ◌∙◌, refl, le_of_suc-le-suc, not-suc-le-zero, arith}
-use Rattle.std.specs.Option.{option_map}
-use Rattle.std.specs.Slice.{IsGetResult}
+use Rattle.std.proofs.Common.{◌≡◌, ℕ, zero, suc, ◌<◌, ◌≤◌, List, [], ◌∷◌, length, get_or, take, Some, None, refl, le_of_suc-le-suc, not-suc-le-zero, arith}
 use Rattle.battery.specs.Tree.{at}
 use Rattle.numbering.proofs.Options.{never}
 
@@ -26,8 +24,3 @@ module _ {A : Type 0} where
   at_take (suc n) [] i h = refl
   at_take (suc n) (x ∷ xs) zero h = refl
   at_take (suc n) (x ∷ xs) (suc i) h = at_take n xs i (le_of_suc-le-suc h)
-
-  -- what `get` finds in a slice
-  pub got_at : (xs : List A) (i : ℕ) (o : Option (Bor A)) → IsGetResult xs i i o → option_map (λ x. x.now) o ≡ at xs i
-  got_at xs i None found = sym (at_past xs i found.3)
-  got_at xs i (Some x) found = ap Some found.1 ∙ sym (at_in xs i x.now found.3.0)

@@ -1,7 +1,6 @@
 -- A token that the table gives is within its bounds.
 use Rattle.std.proofs.Common.{◌≡◌, ℕ, ◌≤◌, Bool, true, false, cond, ◌&&◌, leb, List, [], ◌∷◌, ℤ, pos, negsuc, Some, None, refl, subst, arith, leb-true}
 use lib.Signed.{le_z}
-use Rattle.battery.specs.Tree.{in_range}
 use Rattle.image.specs.declared.record.Record.{Record}
 use Rattle.table.specs.declared.kind.Kind.{Kind}
 use Rattle.table.specs.declared.kind.Kind.TheVariants as kind

@@ -1,7 +1,8 @@
 -- What stands at a place of a list, and lists that go side by side.
-use Rattle.std.proofs.Common.{◌≡◌, ℕ, zero, suc, ◌+◌, ◌-◌, ◌<◌, ◌≤◌, Bool, true, false, cond, ltb, List, [], ◌∷◌, ◌++◌, length, drop, Some, None, Option, sym, refl, ap, ◌∙◌, suc-add, zero-add, arith, length-append, ltb-false, ltb-true}
+use Rattle.std.proofs.Common.{◌≡◌, ℕ, zero, suc, ◌+◌, ◌-◌, ◌<◌, Bool, true, false, cond, ltb, List, [], ◌∷◌, ◌++◌, length, drop, Some, None, Option, sym, refl, ap, ◌∙◌, suc-add, zero-add, arith, length-append, ltb-false, ltb-true}
 use Rattle.battery.specs.Tree.{at, ◌▸◌}
 use Rattle.numbering.proofs.Options.{never, Some≡}
+use Rattle.numbering.proofs.Indexed.{at_past}
 use Rattle.numbering.proofs.Standing.{Matched, neither, each}
 
 -- where the list behind the k-th begins, or the end of all
@@ -34,11 +35,6 @@ module _ {A : Type 0} where
   at_right : (as' bs : List A) (i : ℕ) → at (as' ++ bs) (length as' + i) ≡ at bs i
   at_right [] bs i = ap (at bs) (zero-add i)
   at_right (a ∷ as') bs i = ap (at (a ∷ as' ++ bs)) (suc-add (length as') i) ∙ at_right as' bs i
-
-  at_beyond : (as' : List A) (i : ℕ) → length as' ≤ i → at as' i ≡ None
-  at_beyond [] i h = refl
-  at_beyond (a ∷ as') zero h = absurd (omega arith)
-  at_beyond (a ∷ as') (suc i) h = at_beyond as' i (omega arith)
 
   -- lists one after the other, and where each of them begins
   abbrev pub concat : List (List A) → List A
@@ -73,7 +69,7 @@ module _ {A : Type 0} where
     where
       go : (b : Bool) → ltb (c + i) (ending n (offsets c (as' ∷ L)) 0) ≡ b → cond b (at all (c + i)) None ≡ at as' i
       go true q = let l = ltb-true _ _ q in let f = first_ends n c as' L e in h i ∙ at_left as' (concat L) i (omega arith)
-      go false q = let l = ltb-false _ _ q in let f = first_ends n c as' L e in sym (at_beyond as' i (omega arith))
+      go false q = let l = ltb-false _ _ q in let f = first_ends n c as' L e in sym (at_past as' i (omega arith))
   elements n c (as' ∷ L) all (suc k) i e h =
       elements n (c + length as') L all k i (rest_ends n c as' L e) (λ j. ap (at all) (let r : (c + length as') + j ≡ c + (length as' + j) = omega arith in r) ∙ h (length as' + j) ∙ at_right as' (concat L) j)
 

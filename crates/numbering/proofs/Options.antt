@@ -1,9 +1,9 @@
 -- An answer that went through, and what an Option's constructors tell.
-use Rattle.std.proofs.Common.{◌≡◌, ℕ, Bool, true, false, ◌&&◌, Some, None, Option, refl, arith}
+use Rattle.std.proofs.Common.{◌≡◌, Bool, true, false, ◌&&◌, Some, None, Option, refl}
 use Rattle.battery.specs.Tree.{◌▸◌}
 
 pub never : {A P : Type 0} {a : A} → ◌≡◌ {A = Option A} None (Some a) → P
-never {a = a} e = let z : ◌≡◌ {A = ℕ} 0 1 = cc in absurd (omega arith)
+never {a = a} e = cc
 
 pub Some≡ : {A : Type 0} {a b : A} → Some a ≡ Some b → a ≡ b
 Some≡ {a = a} {b = b} e = cc
@@ -18,7 +18,7 @@ through None f b e = never e
 through (Some a) f b e = record { mid = a; got = refl; gave = e }
 
 pub false≢true : {P : Type 0} → false ≡ true → P
-false≢true e = let z : ◌≡◌ {A = ℕ} 0 1 = cc in absurd (omega arith)
+false≢true e = cc
 
 pub both : (b c : Bool) → (b && c) ≡ true → (b ≡ true) × (c ≡ true)
 both true c e = (refl, e)

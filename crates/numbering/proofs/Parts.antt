@@ -391,4 +391,4 @@ module _ (t : List ℕ) where
       go (is_arm i x c) e =
           let y = of_arm p i x c ws ms ps (arms_first p (ARM i x c ∷ ws) ms ps e) in
           let r : no_arm ≡ arm p c i x y.e y.more = sym n ∙ y.is in
-          let z : ◌≡◌ {A = ℕ} 0 1 = cc in omega arith
+          cc

@@ -1,11 +1,11 @@
 -- What the card has is what was found, and the test of numbering goes token by token.
-use Rattle.std.proofs.Common.{◌≡◌, ℕ, zero, suc, ◌+◌, ◌<◌, ◌≤◌, true, false, cond, ltb, List, [], ◌∷◌, length, get_or, drop, is_some, Some, None, Option, sym, refl, ap, ◌∙◌, add-one, arith}
-use Rattle.std.proofs.lemmas.List.{drop_more, drop_all}
+use Rattle.std.proofs.Common.{◌≡◌, ℕ, zero, suc, ◌+◌, ◌<◌, ◌≤◌, false, cond, ltb, List, [], ◌∷◌, length, get_or, drop, is_some, Some, Option, sym, refl, ap, ◌∙◌, arith}
+use Rattle.std.proofs.lemmas.List.{drop_more}
 use Rattle.std.proofs.lemmas.Bool.{le-ltb, lt-ltb}
 use Rattle.std.proofs.lemmas.Bool.Decides.{nat_tests}
 use Rattle.battery.specs.Tree.{at, Card}
 use Rattle.table.specs.declared.token.Token.{Token}
-use Rattle.table.specs.declared.token.Token.TheVariants.{Close as CLOSE, Enum as ENUM, Case as CASE, Def as DEF, Ty as TYPE, Arm as ARM, Expr as EXPR}
+use Rattle.table.specs.declared.token.Token.TheVariants.{Close as CLOSE}
 use Rattle.numbering.specs.Numbering.{is_there, Seen, seen, numbered, misnumbered}
 use Rattle.numbering.proofs.Standing.{Matched, neither, each}
 
@@ -25,26 +25,7 @@ matched_there (each r) = refl
 abbrev pub Within : ℕ → Seen → Type 0
 Within i s = (s.enums ≤ i) × (s.defs ≤ i) × (s.cases ≤ i)
 
-pub within_more : (i : ℕ) (s : Seen) (w : Token) → Within i s → Within (i + 1) (seen s w)
-within_more i s CLOSE h = (omega arith, omega arith, omega arith)
-within_more i s (ENUM k) h = (omega arith, omega arith, omega arith)
-within_more i s (CASE n k) h = (omega arith, omega arith, omega arith)
-within_more i s (DEF n k) h = (omega arith, omega arith, omega arith)
-within_more i s (TYPE τ) h = (omega arith, omega arith, omega arith)
-within_more i s (ARM n x c) h = (omega arith, omega arith, omega arith)
-within_more i s (EXPR e) h = (omega arith, omega arith, omega arith)
-
-module _ (C : Card) (t : ℕ) (ws : List Token) (i : ℕ) (s : Seen) (h : i < length ws) where
-  step : misnumbered C t i s (drop i ws) ≡ cond (numbered C t s (get_or ws i CLOSE)) (misnumbered C t (suc i) (seen s (get_or ws i CLOSE)) (drop (i + 1) ws)) (Some i)
-  step = ap (misnumbered C t i s) (drop_more ws i CLOSE h)
-
-  pub out_of_order : false ≡ numbered C t s (get_or ws i CLOSE) → misnumbered C t i s (drop i ws) ≡ Some i
-  out_of_order e = step ∙ ap (λ b. cond b (misnumbered C t (suc i) (seen s (get_or ws i CLOSE)) (drop (i + 1) ws)) (Some i)) (sym e)
-
-  pub in_order : (s' : Seen) → s' ≡ seen s (get_or ws i CLOSE) → true ≡ numbered C t s (get_or ws i CLOSE) → misnumbered C t i s (drop i ws) ≡ misnumbered C t (i + 1) s' (drop (i + 1) ws)
-  in_order s' q e =
-      step ∙ ap (λ b. cond b (misnumbered C t (suc i) (seen s (get_or ws i CLOSE)) (drop (i + 1) ws)) (Some i)) (sym e)
-      ∙ ap (λ u. misnumbered C t (suc i) u (drop (i + 1) ws)) (sym q) ∙ ap (λ k. misnumbered C t k s' (drop (i + 1) ws)) (sym (add-one i))
-
-pub all_in_order : (C : Card) (t : ℕ) (ws : List Token) (i : ℕ) (s : Seen) → length ws ≤ i → misnumbered C t i s (drop i ws) ≡ None
-all_in_order C t ws i s h = ap (misnumbered C t i s) (drop_all i ws h)
+pub out_of_order : (C : Card) (t : ℕ) (ws : List Token) (i : ℕ) (s : Seen) → i < length ws → false ≡ numbered C t s (get_or ws i CLOSE) → misnumbered C t i s (drop i ws) ≡ Some i
+out_of_order C t ws i s h e =
+    ap (misnumbered C t i s) (drop_more ws i CLOSE h)
+    ∙ ap (λ b. cond b (misnumbered C t (suc i) (seen s (get_or ws i CLOSE)) (drop (i + 1) ws)) (Some i)) (sym e)

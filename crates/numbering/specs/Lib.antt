@@ -2,7 +2,6 @@ pub mod Numbering
 pub mod Places
 pub mod Ends
 pub mod Limits
-pub mod Listed
 pub mod Behind
 pub mod Views
 pub mod Counts

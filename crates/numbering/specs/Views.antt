@@ -6,7 +6,7 @@ use Rattle.grammar.specs.Grammar.{card_of}
 use Rattle.numbering.specs.declared.layout.Layout.{Layout}
 
 abbrev pub tokens_in : Layout → List Token
-tokens_in l = l.tokens.now
+tokens_in l = l.tokens.list.now
 
 -- the place after what stands at each place
 abbrev pub ends_in : Layout → List ℕ

@@ -1,5 +1,5 @@
 ghost use Rattle.std.specs.Prelude.{◌≡◌, ◌<◌, [], ◌∷◌, ◌++◌, length};
-ghost use Rattle.numbering.specs.Listed.{listed};
+ghost use Rattle.few.specs.Listed.{listed};
 ghost use Rattle.numbering.specs.Places.{firsts_in, cases_in, functions_in};
 
 use crate::Tokens;
@@ -27,7 +27,9 @@ impl Found {
 
     // An enum's first case is the next that comes.
     fn note(&mut self, place: u16, token: Token)
-        requires { (length (listed self.old.firsts) < 512) × ((length (listed self.old.cases) < 512) × (length (listed self.old.functions) < 512)) }
+        requires firsts { length (listed self.old.firsts) < 512 }
+        requires cases { length (listed self.old.cases) < 512 }
+        requires functions { length (listed self.old.functions) < 512 }
         ensures firsts { listed self.new.firsts ≡ listed self.old.firsts ++ firsts_in (length (listed self.old.cases)) (token ∷ []) }
         ensures cases { listed self.new.cases ≡ listed self.old.cases ++ cases_in place (token ∷ []) }
         ensures functions { listed self.new.functions ≡ listed self.old.functions ++ functions_in place (token ∷ []) }

@@ -9,5 +9,5 @@ mod tokens;
 
 pub use layout::Layout;
 pub use order::numbered;
-pub use places::Places;
+pub use places::{Places, place_at};
 pub use tokens::Tokens;

@@ -9,7 +9,7 @@ use battery::Ty;
 use table::{Head, Leaf, Many, Token};
 
 // How many enums and functions went before, and cases of this enum.
-#[derive(Clone, Copy)]
+#[derive(Clone, Copy, Default)]
 struct Counts {
     enums: usize,
     defs: usize,
@@ -17,16 +17,6 @@ struct Counts {
 }
 
 impl Counts {
-    fn none() -> Counts
-        ensures { counted result ≡ none_seen }
-    {
-        Counts {
-            enums: 0,
-            defs: 0,
-            cases: 0,
-        }
-    }
-
     // An enum's cases are counted from its record on.
     fn after(self, token: Token) -> Counts
         requires { (self.enums < 512) × ((self.defs < 512) × (self.cases < 512)) }
@@ -123,7 +113,7 @@ fn in_order(layout: &Layout<'_>, texts: usize, counts: Counts, token: Token) -> 
 pub fn numbered(layout: &Layout<'_>, texts: usize) -> Result<(), usize>
     ensures { OnCard (tokens_in layout.now) (λ C. MatchResult result (λ _. misnumbered C texts 0 none_seen (tokens_in layout.now) ≡ None) (λ p. misnumbered C texts 0 none_seen (tokens_in layout.now) ≡ Some p)) }
 {
-    let mut counts = Counts::none();
+    let mut counts = Counts::default();
     let tokens = layout.tokens();
     for (i, token) in tokens.iter().enumerate() {
         if !in_order(layout, texts, counts, *token) {

@@ -1,12 +1,14 @@
-mod list;
+ghost use Rattle.std.specs.Prelude.{◌≡◌};
+ghost use Rattle.battery.specs.Tree.{at};
+ghost use Rattle.few.specs.Listed.{listed};
 
-ghost use Rattle.std.specs.Prelude.{◌≡◌, ◌≤◌, length};
+use few::Few;
 
 // Places of tokens, in order: a card has at most 512.
-#[derive(Drop)]
-pub struct Places {
-    items: [u16; 512],
-    len: usize,
-    ghost whole: { length items ≡ 512 },
-    ghost room: { len ≤ 512 },
+pub type Places = Few<u16, 512>;
+
+pub fn place_at(places: &Places, i: usize) -> Option<usize>
+    ensures { result ≡ at (listed places.now) i }
+{
+    places.as_slice().get(i).map(|&place| place as usize)
 }

@@ -1,5 +1,4 @@
 pub mod Bodies
-pub mod Clamped
 pub mod Records
 pub mod Cards
 pub mod Stands

@@ -101,12 +101,12 @@ module _ (t : List ℕ) (ws : List Token) (es : List ℕ) (ends : Ends ws es) wh
 
   -- an expression's head
   headed_by : (i : ℕ) (w : Token) (ps : List Piece) → at ws i ≡ Some w → pieces_of t i (w ∷ drop (suc i) ws) ≡ Some (expr (tree_at t ws i) ∷ ps) → Headed t ws es i
-  headed_by i CLOSE ps s q = no_expr t i CLOSE (drop (suc i) ws) _ ps (λ h d. let z : ◌≡◌ {A = ℕ} 0 1 = cc in omega arith) q
-  headed_by i (ENUM k) ps s q = no_expr t i (ENUM k) (drop (suc i) ws) _ ps (λ h d. let z : ◌≡◌ {A = ℕ} 0 1 = cc in omega arith) q
-  headed_by i (CASE n k) ps s q = no_expr t i (CASE n k) (drop (suc i) ws) _ ps (λ h d. let z : ◌≡◌ {A = ℕ} 0 1 = cc in omega arith) q
-  headed_by i (DEF n k) ps s q = no_expr t i (DEF n k) (drop (suc i) ws) _ ps (λ h d. let z : ◌≡◌ {A = ℕ} 0 1 = cc in omega arith) q
-  headed_by i (TYPE τ) ps s q = no_expr t i (TYPE τ) (drop (suc i) ws) _ ps (λ h d. let z : ◌≡◌ {A = ℕ} 0 1 = cc in omega arith) q
-  headed_by i (ARM n x c) ps s q = no_expr t i (ARM n x c) (drop (suc i) ws) _ ps (λ h d. let z : ◌≡◌ {A = ℕ} 0 1 = cc in omega arith) q
+  headed_by i CLOSE ps s q = no_expr t i CLOSE (drop (suc i) ws) _ ps (λ h d. cc) q
+  headed_by i (ENUM k) ps s q = no_expr t i (ENUM k) (drop (suc i) ws) _ ps (λ h d. cc) q
+  headed_by i (CASE n k) ps s q = no_expr t i (CASE n k) (drop (suc i) ws) _ ps (λ h d. cc) q
+  headed_by i (DEF n k) ps s q = no_expr t i (DEF n k) (drop (suc i) ws) _ ps (λ h d. cc) q
+  headed_by i (TYPE τ) ps s q = no_expr t i (TYPE τ) (drop (suc i) ws) _ ps (λ h d. cc) q
+  headed_by i (ARM n x c) ps s q = no_expr t i (ARM n x c) (drop (suc i) ws) _ ps (λ h d. cc) q
   headed_by i (EXPR h) ps s q = record { head = h; stands = s; within = at_below ws i _ s; node = node i h _ ps refl q }
 
   pub headed : (i : ℕ) → Begins t ws i → Headed t ws es i
@@ -116,7 +116,7 @@ module _ (t : List ℕ) (ws : List Token) (es : List ℕ) (ends : Ends ws es) wh
 
   -- the first of the arms
   arm_by : (i : ℕ) {w : Token} (ps : List Piece) → ArmsToken t w → at ws i ≡ Some w → arms_from t i (w ∷ drop (suc i) ws) ≡ Some (arms_at t ws i, ps) → FirstArm t ws es i
-  arm_by i ps is_close_lem s q = no_more (λ n x c d. let z : ◌≡◌ {A = ℕ} 0 1 = cc in omega arith) (of_no_arm t i (drop (suc i) ws) _ ps q).0
+  arm_by i ps is_close_lem s q = no_more (λ n x c d. cc) (of_no_arm t i (drop (suc i) ws) _ ps q).0
   arm_by i ps (is_arm n x c) s q =
       let y = of_arm t i n x c (drop (suc i) ws) _ ps q in
       let a = begins t ws (suc i) y.e y.next y.part in

@@ -1,6 +1,7 @@
 -- What a program holds of an image: the card's tokens, its text bytes and where its expressions end.
-use Rattle.std.specs.Prelude.{ℕ, List, [], take, Some, None, Option}
+use Rattle.std.specs.Prelude.{ℕ, List, [], Some, None, Option}
 use Rattle.battery.specs.Tree.{Card, ◌▸◌}
+use Rattle.few.specs.Listed.{listed}
 use Rattle.image.specs.declared.header.ImageFault.{ImageFault}
 use Rattle.image.specs.Bytes.{records_of, text_bytes}
 use Rattle.image.specs.Header.{header_fault}
@@ -10,10 +11,10 @@ use Rattle.grammar.specs.Grammar.{card_of}
 use Rattle.program.specs.declared.program.Program.{Program}
 
 abbrev pub tokens_in : Program → List Token
-tokens_in p = take p.len p.tokens
+tokens_in p = listed p.tokens
 
 abbrev pub text_in : Program → List ℕ
-text_in p = take p.texts p.text
+text_in p = listed p.text
 
 -- the place after what stands at each place
 abbrev pub ends_in : Program → List ℕ

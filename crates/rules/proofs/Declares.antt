@@ -1,6 +1,6 @@
 -- The types of a case or a function, by the tokens at its place.
 use Rattle.std.proofs.Common.{◌≡◌, ℕ, suc, ◌+◌, ◌≤◌, List, [], drop, Some, None, Err, Option, Result, sym, refl, ap, ◌∙◌, subst, arith}
-use Rattle.std.specs.Option.{option_map, ok_or, MatchOption}
+use Rattle.std.specs.Option.{option_map, ok_or, UnwrapsOrElse}
 use Rattle.battery.specs.declared.Ty.{Ty}
 use Rattle.battery.specs.Tree.{Fn, at, ◌▸◌}
 use Rattle.few.specs.declared.items.Few.{Few}
@@ -58,10 +58,10 @@ module _ (ws : List Token) where
       go fn (Some s) x = x
 
   -- the fields of a case of an enum that is there
-  pub fields_there : (k c : ℕ) (o : Option (Few Ty 4)) (s : Few Ty 4) → OnCard ws (λ C. option_map listed o ≡ case_of C k c) → MatchOption o (listed s ≡ []) (λ x. s ≡ x) → OfEnum ws k (λ E. fields_of (at E c) ≡ listed s)
+  pub fields_there : (k c : ℕ) (o : Option (Few Ty 4)) (s : Few Ty 4) → OnCard ws (λ C. option_map listed o ≡ case_of C k c) → UnwrapsOrElse o (λ few. listed few ≡ []) s → OfEnum ws k (λ E. fields_of (at E c) ≡ listed s)
   fields_there k c o s h g t C read E d = ap fields_of (sym (h t C read ∙ ap (λ (v : Option (List (List Ty))). v ▸ λ E. at E c) d)) ∙ go o g
     where
-      go : (o : Option (Few Ty 4)) → MatchOption o (listed s ≡ []) (λ x. s ≡ x) → fields_of (option_map listed o) ≡ listed s
+      go : (o : Option (Few Ty 4)) → UnwrapsOrElse o (λ few. listed few ≡ []) s → fields_of (option_map listed o) ≡ listed s
       go None g = sym g
       go (Some x) g = ap listed (sym g)
 

@@ -53,7 +53,7 @@ fn case_types(card: &Layout<'_>, of: u16, case: u8) -> Option<Types>
 pub fn fields(card: &Layout<'_>, of: u16, case: u8) -> Types
     ensures { OfEnum (tokens_in card.now) of (λ E. fields_of (standing E case) ≡ listed result) }
 {
-    case_types(card, of, case).unwrap_or_else(Types::new)
+    case_types(card, of, case).unwrap_or_default()
 }
 
 // What the DEF at a place declares.

@@ -55,6 +55,14 @@ impl<T: Copy, const N: usize> Few<T, N> {
     }
 }
 
+impl<T: Copy + Default, const N: usize> Default for Few<T, N> {
+    ghost is_default = { λ few. listed few ≡ [] };
+
+    fn default() -> Few<T, N> {
+        Few::new()
+    }
+}
+
 // Equal when the items are, one by one, whatever lies behind them.
 impl<T: Copy + PartialEq, const N: usize> PartialEq for Few<T, N> {
     ghost eq = { λ a b. pointwise T.eq (listed a) (listed b) };

@@ -1,6 +1,6 @@
 ghost use Rattle.std.specs.Prelude.{◌≡◌, length};
 ghost use Rattle.numbering.specs.Ends.{Ends};
-ghost use Rattle.numbering.specs.Listed.{listed};
+ghost use Rattle.few.specs.Listed.{listed};
 ghost use Rattle.numbering.specs.Places.{functions_in};
 ghost use Rattle.numbering.specs.Views.{tokens_in};
 
@@ -21,7 +21,7 @@ impl<'a> Layout<'a> {
             functions,
         } = Found::of(tokens);
         Layout {
-            tokens: tokens.list,
+            tokens,
             firsts,
             cases,
             functions,
@@ -32,7 +32,7 @@ impl<'a> Layout<'a> {
     pub fn tokens(&self) -> &'a [Token]
         ensures { result.now ≡ tokens_in self.now }
     {
-        self.tokens
+        self.tokens.list
     }
 
     // What outlives the tokens: where functions stand, and where expressions end.

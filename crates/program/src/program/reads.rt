@@ -1,7 +1,7 @@
 ghost use Rattle.std.specs.Prelude.{◌≡◌, length, take, drop, if◌then◌else◌, Some, None, nat_le, slice_index};
 ghost use Rattle.battery.specs.Tree.{Card, at};
 ghost use Rattle.grammar.specs.Grammar.{card_of};
-ghost use Rattle.table.specs.Sorts.{head_of, arm_in, parameter_count};
+ghost use Rattle.table.specs.Sorts.{head_of, arm_in};
 ghost use Rattle.std.specs.Option.{option_map};
 ghost use Rattle.cells.specs.Meaning.{text_of};
 ghost use Rattle.program.specs.Views.{tokens_in, text_in, ends_in};
@@ -10,17 +10,14 @@ ghost use Rattle.program.specs.Called.{OfFunction};
 use super::Program;
 use crate::Function;
 use cells::Text;
+use numbering::place_at;
 use table::{Arm, Head, Token};
 
 impl Program {
     fn token(&self, place: usize) -> Option<Token>
         ensures { result ≡ at (tokens_in self.now) place }
     {
-        if place < self.len {
-            Some(self.tokens[place])
-        } else {
-            None
-        }
+        self.tokens.as_slice().get(place).copied()
     }
 
     pub fn head(&self, place: u16) -> Option<Head>
@@ -39,25 +36,15 @@ impl Program {
     pub fn end(&self, place: u16) -> u16
         ensures { result ≡ slice_index (ends_in self.now) place }
     {
-        if place < 512 {
-            self.ends[place as usize]
-        } else {
-            0
-        }
-    }
-
-    fn parameters(&self, place: usize) -> Option<u8>
-        ensures { result ≡ parameter_count (at (tokens_in self.now) place) }
-    {
-        self.token(place)?.parameters()
+        self.ends.get(place as usize).copied().unwrap_or(0)
     }
 
     // A function's body stands behind its DEF, the types of its parameters and that of its result.
     pub fn function(&self, f: u16) -> Option<Function>
         ensures { (C : Card) → card_of (text_in self.now) (tokens_in self.now) ≡ Some C → OfFunction (text_in self.now) (tokens_in self.now) (at C.fns f) result }
     {
-        let place = self.functions.get(f as usize)?;
-        let parameters = self.parameters(place)?;
+        let place = place_at(&self.functions, f as usize)?;
+        let parameters = self.token(place)?.parameters()?;
         Some(Function {
             body: (place + 2 + parameters as usize) as u16,
             parameters,
@@ -68,8 +55,9 @@ impl Program {
     pub fn text(&self, place: u16, bytes: u8) -> Option<Text>
         ensures { option_map text_of result ≡ (if nat_le (length (take bytes (drop place (text_in self.now)))) 24 then Some (take bytes (drop place (text_in self.now))) else None) }
     {
-        let from = (place as usize).min(self.texts);
-        let to = (from + bytes as usize).min(self.texts);
-        Text::of(&self.text[from..to])
+        let text = self.text.as_slice();
+        let from = (place as usize).min(text.len());
+        let to = (from + bytes as usize).min(text.len());
+        Text::of(&text[from..to])
     }
 }

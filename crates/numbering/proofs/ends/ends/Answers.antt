@@ -1,17 +1,12 @@
 -- What is written at a place leaves the ends behind it as they were.
-use Rattle.std.proofs.Common.{◌-◌, refl, ◌∙◌, arith}
+use Rattle.std.proofs.Common.{◌∙◌, arith}
 use Rattle.std.proofs.lemmas.List.{length-set}
-use Rattle.numbering.proofs.Steps.{past_last, ends_all, ends_more}
+use Rattle.numbering.proofs.Steps.{one_back}
 use Rattle.numbering.proofs.ends.ends.Goals as goal
 
-pub loop-place-init : goal.loop-place-init
-loop-place-init c = (refl, λ p w h e. past_last c.args.tokens.list.now p w h e)
-
-pub loop-place-preserved : goal.loop-place-preserved
-loop-place-preserved c = (
-  length-set c.loop-place.ends (c.loop-place.place - 1) c.past-end.result ∙ c.loop-place.invariant.0,
-  ends_more c.args.tokens.list.now c.loop-place.ends c.loop-place.place c.past-end.result c.loop-place-test.true c.loop-place.auto.place (omega arith) c.loop-place.invariant.0 c.past-end.ensures c.loop-place.invariant.1,
-)
-
-pub returns : goal.returns
-returns c = record { ends = ends_all c.args.tokens.list.now c.loop-place.ends c.loop-place.place c.loop-place-test.false c.loop-place.invariant.1; whole = c.loop-place.invariant.0 }
+pub loop-i-preserved : goal.loop-i-preserved
+loop-i-preserved c =
+    let h = c.loop-i.invariant in
+    let s = c.in-Some.ensures.steps in
+    let x = one_back c.args.tokens.list.now _ _ _ c.loop-i.ends c.in-Some.i _ s.1.0 h.2 (omega arith) (omega arith) c.past.ensures h.3 in
+    (length-set c.loop-i.ends c.in-Some.i _ ∙ h.0, s.0 ∙ h.1, x.0, x.1)

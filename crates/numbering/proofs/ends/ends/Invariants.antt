@@ -1,7 +1,10 @@
--- The table is right from the last place reached on.
-use Rattle.std.proofs.Common.{◌≡◌, length}
+-- The tokens that are left are the first, and the table is right behind them.
+use Rattle.std.proofs.Common.{◌≡◌, length, take}
 use Rattle.numbering.proofs.Steps.{EndsFrom}
 use Rattle.numbering.proofs.ends.ends.Given as goal
 
-abbrev pub invariant-loop-place : goal.invariant-loop-place
-invariant-loop-place l = (length l.ends ≡ 512) × EndsFrom l.tokens.list.now l.ends l.place
+abbrev pub invariant-loop-i : goal.invariant-loop-i
+invariant-loop-i l =
+    (length l.ends ≡ 512) × (l.i-iterator.iter.count ≡ 0)
+    × (take (length l.i-iterator.iter.iter.rest.now) l.tokens.list.now ≡ l.i-iterator.iter.iter.rest.now)
+    × EndsFrom l.tokens.list.now l.ends (length l.i-iterator.iter.iter.rest.now)

@@ -15,15 +15,15 @@ returns-in_err-fields c =
 pub overflow_add-place : goal.overflow_add-place
 overflow_add-place c =
     let h = stands (tokens_in c.args.card.now) c.in_ok-place.place field_count _ refl c.in_ok-fields.ensures in
-    let l = c.args.card.now.few in
+    let l = c.args.card.now.tokens.few in
     search rules
 
 pub types_at-requires : goal.types_at-requires
 types_at-requires c =
     let h = stands (tokens_in c.args.card.now) c.in_ok-place.place field_count _ refl c.in_ok-fields.ensures in
-    let l = c.args.card.now.few in
+    let l = c.args.card.now.tokens.few in
     search rules
 
 pub returns : goal.returns
 returns c =
-    case_there (tokens_in c.args.card.now) c.args.of c.args.case c.in_ok-place.place c.in_ok-fields.fields c.types_at.result c.args.card.now.limited c.in_ok-place.ensures c.in_ok-fields.ensures c.types_at.ensures
+    case_there (tokens_in c.args.card.now) c.args.of c.args.case c.in_ok-place.place c.in_ok-fields.fields c.types_at.result c.args.card.now.tokens.limited c.in_ok-place.ensures c.in_ok-fields.ensures c.types_at.ensures

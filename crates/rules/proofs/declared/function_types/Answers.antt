@@ -7,4 +7,4 @@ returns-in_err-function c = rw c.from_residual.ensures (no_function (tokens_in c
 
 pub returns : goal.returns
 returns c =
-    function_there (tokens_in c.args.card.now) c.args.function c.in_ok-function.field-0 c.signature_at.result c.args.card.now.limited c.in_ok-function.ensures c.signature_at.ensures
+    function_there (tokens_in c.args.card.now) c.args.function c.in_ok-function.field-0 c.signature_at.result c.args.card.now.tokens.limited c.in_ok-function.ensures c.signature_at.ensures

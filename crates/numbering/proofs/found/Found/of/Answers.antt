@@ -1,15 +1,19 @@
 -- Each token adds to the lists what it adds to the places found, and there is room for it.
-use Rattle.std.proofs.Common.{length, take, ap, ◌∙◌, arith}
-use Rattle.std.proofs.lemmas.List.{length-take-le, take_all}
-use Rattle.numbering.specs.Places.{firsts_in, cases_in, functions_in}
-use Rattle.numbering.proofs.Counted.{firsts_read, cases_read, functions_read, firsts_few, cases_few, functions_few}
+use Rattle.std.proofs.Common.{length, take, ap, arith}
+use Rattle.std.proofs.lemmas.List.{length-take-le}
+use Rattle.numbering.proofs.Counted.{firsts_read, cases_read, functions_read, few_found}
 use Rattle.numbering.proofs.found.Found.of.Goals as goal
 
 pub note-requires : goal.note-requires
 note-requires c =
     let us = take c.loop-i.i c.args.tokens.list.now in
     let l = length-take-le c.loop-i.i c.args.tokens.list.now (omega arith) in
-    (omega (arith, ap length c.loop-i.invariant.0, firsts_few 0 us), (omega (arith, ap length c.loop-i.invariant.1, cases_few 0 us), omega (arith, ap length c.loop-i.invariant.2, functions_few 0 us)))
+    let f = few_found 0 0 us in
+    record {
+      firsts = omega (arith, ap length c.loop-i.invariant.0);
+      cases = omega (arith, ap length c.loop-i.invariant.1);
+      functions = omega (arith, ap length c.loop-i.invariant.2);
+    }
 
 pub loop-i-preserved : goal.loop-i-preserved
 loop-i-preserved c =
@@ -17,8 +21,3 @@ loop-i-preserved c =
     let i = c.loop-i.i in
     let h = c.loop-i-test.true in
     (firsts_read ws i h _ _ _ c.loop-i.invariant.0 c.loop-i.invariant.1 c.note.ensures.firsts, cases_read ws i h _ _ c.loop-i.invariant.1 c.note.ensures.cases, functions_read ws i h _ _ c.loop-i.invariant.2 c.note.ensures.functions)
-
-pub returns : goal.returns
-returns c =
-    let e = take_all c.loop-i.i c.args.tokens.list.now (omega arith) in
-    record { firsts = c.loop-i.invariant.0 ∙ ap (firsts_in 0) e; cases = c.loop-i.invariant.1 ∙ ap (cases_in 0) e; functions = c.loop-i.invariant.2 ∙ ap (functions_in 0) e }

@@ -1,6 +1,6 @@
 -- The lists hold what stands in the tokens read so far.
 use Rattle.std.proofs.Common.{◌≡◌, take}
-use Rattle.numbering.specs.Listed.{listed}
+use Rattle.few.specs.Listed.{listed}
 use Rattle.numbering.specs.Places.{firsts_in, cases_in, functions_in}
 use Rattle.numbering.proofs.found.Found.of.Given as goal
 

@@ -1,5 +1,5 @@
 use Rattle.program.proofs.Formed.{runs}
 use Rattle.program.proofs.program.Program.of.Goals as goal
 
-pub returns : goal.returns
-returns c = record { spelled = c.read.ensures; card = runs c.args.image.now c.read.result c.read.ensures }
+pub returns-clause-card : goal.returns-clause-card
+returns-clause-card c = runs c.args.image.now c.read.result c.read.ensures

@@ -1,45 +1,38 @@
 -- Tokens in their places spell a card, and the tables are those of its tokens.
-use Rattle.std.proofs.Common.{◌≡◌, ◌≤◌, length, take, sym, ap, ◌∙◌, subst, arith}
-use Rattle.std.proofs.lemmas.List.{length-take-le}
+use Rattle.std.proofs.Common.{◌≡◌, sym, ap, ◌∙◌, subst, arith}
+use Rattle.few.specs.Listed.{listed}
 use Rattle.numbering.specs.Limits.{AllLimited}
 use Rattle.numbering.specs.Places.{functions_in}
 use Rattle.numbering.specs.Ends.{Ends}
-use Rattle.numbering.specs.Views as layout
-use Rattle.program.proofs.Cards.{Spells, front, as_spelt, none_spelt, one_spelt}
+use Rattle.program.specs.Views.{spelled}
+use Rattle.program.proofs.Cards.{Spells, kept, as_spelt, none_spelt, one_spelt}
 use Rattle.program.proofs.program.Program.on_card.Goals as goal
-use Rattle.program.proofs.program.Program.on_card.Goals.{Else-is_err}
+use Rattle.program.proofs.program.Program.on_card.Goals.{In_ok-of-2}
 
-pub returns-then-is_err : goal.returns-then-is_err
-returns-then-is_err c = none_spelt c.args.bytes.now c.args.len c.args.tokens (omega arith) (omega arith) c.placed.result c.if-is_err.ensures.value c.placed.ensures
+pub returns-in_err-ok : goal.returns-in_err-ok
+returns-in_err-ok c = ap spelled c.from_residual.ensures ∙ none_spelt c.args.bytes.now c.args.tokens.list.now c.requires.some c.placed.result c.placed.ensures c.in_err-ok.ensures.value
 
-spells : (c : goal.Else-is_err) → Spells c.args.bytes.now (take c.args.len c.args.tokens)
-spells c = one_spelt c.args.bytes.now c.args.len c.args.tokens (omega arith) (omega arith) c.placed.result c.if-is_err.ensures.value c.placed.ensures
+-- what is kept of the tokens and of the bytes is all of them
+tokens : (c : goal.In_ok-of-2) → listed c.in_ok-of.field-0 ≡ c.args.tokens.list.now
+tokens c = kept c.in_ok-of.ensures (omega arith)
 
-pub invariant_of-of : goal.invariant_of-of
-invariant_of-of c =
-    let same = front c.args.len c.args.tokens in
-    let l = length-take-le c.args.len c.args.tokens (omega arith) in
-    let few : length (take c.args.len c.args.tokens) ≤ 512 = omega arith in
-    record { few = subst (λ ws. length ws ≤ 512) (sym same) few; limited = ∣ subst AllLimited (sym same) c.requires.limited ∣₁ }
+text : (c : goal.In_ok-of-2) → listed c.in_ok-of-2.field-0 ≡ c.args.bytes.now
+text c = kept c.in_ok-of-2.ensures (omega arith)
+
+spells : (c : goal.In_ok-of-2) → Spells c.args.bytes.now c.args.tokens.list.now
+spells c = one_spelt c.args.bytes.now c.args.tokens.list.now c.requires.some c.placed.result c.placed.ensures c.in_ok-ok.ensures.value
 
 pub invariant_of-result : goal.invariant_of-result
 invariant_of-result c =
-    let ws = take c.args.len c.args.tokens in
-    let same : layout.tokens_in c.of.result ≡ ws = c.of.ensures ∙ front c.args.len c.args.tokens in
-    let ended = subst (λ vs. Ends vs c.into_tables.result.1) same c.into_tables.ensures.ends in
-    let defined = c.into_tables.ensures.functions ∙ ap (functions_in 0) same in
-    let spelt = subst (λ t. Spells t ws) (sym c.copied.ensures.start) (spells (goal.at.invariant_of-result c).Else-is_err) in
+    let same = c.of.ensures ∙ sym (tokens c) in
+    let spelt = subst (λ t. Spells t (listed c.in_ok-of.field-0)) (sym (text c)) (subst (Spells c.args.bytes.now) (sym (tokens c)) (spells c)) in
     record {
-      tokened = c.requires.tokens.0;
-      few = c.requires.tokens.2;
       whole = c.into_tables.ensures.whole;
-      written = c.copied.ensures.whole;
-      short = c.requires.bytes;
-      ended = ended;
-      limited = ∣ c.requires.limited ∣₁;
-      defined = defined;
+      ended = subst (λ ws. Ends ws c.into_tables.result.1) same c.into_tables.ensures.ends;
+      limited = subst (λ ws. ∥ AllLimited ws ∥₁) (sym (tokens c)) c.args.tokens.limited;
+      defined = c.into_tables.ensures.functions ∙ ap (functions_in 0) same;
       spelt = ∣ spelt ∣₁;
     }
 
 pub returns : goal.returns
-returns c = as_spelt c.args.bytes.now (take c.args.len c.args.tokens) _ c.copied.ensures.start (spells (goal.at.returns c).Else-is_err)
+returns c = let d = (goal.at.returns c).In_ok-of-2 in as_spelt (text d) (tokens d) (spells d)

@@ -5,6 +5,6 @@ use Rattle.rules.proofs.arms.ArmsFrom.taken_once.Goals as goal
 
 pub count-requires-clause-fits : goal.count-requires-clause-fits
 count-requires-clause-fits c =
-    let l = c.args.self.card.now.few in
+    let l = c.args.self.card.now.tokens.few in
     let few = at_most_so_many (tokens_in c.args.self.card.now) (ends_in c.args.self.card.now) (length (tokens_in c.args.self.card.now)) c.args.self.place in
     inl (rw c.filter.ensures.source (omega arith))

@@ -79,7 +79,7 @@ exit-returns-in_err-ty-clause-is t c =
 pub exit-overflow_add-self-2 : goal.exit-overflow_add-self-2
 exit-overflow_add-self-2 t c =
     let h = at_below (tokens_at c.args.self.now) c.args.self.now.place _ c.requires in
-    let l = c.args.self.now.card.now.few in
+    let l = c.args.self.now.card.now.tokens.few in
     search rules
 
 pub exit-expression-requires : goal.exit-expression-requires
@@ -131,7 +131,7 @@ plain-loop-preserved t c =
     let s = c.args.self.now in
     let i = c.loop.invariant in
     let o = c.in_ok-expression in
-    let few : c.args.n ≤ 4 = few_parts (tokens_at s) s.place c.args.head c.args.n s.card.now.limited c.requires.here c.requires.shape in
+    let few : c.args.n ≤ 4 = few_parts (tokens_at s) s.place c.args.head c.args.n s.card.now.tokens.limited c.requires.here c.requires.shape in
     let e = pushed (listed c.loop.types) (listed c.push.new.self) o.field-0 (omega (arith, i.1)) c.push.ensures in
     let one = typed_along (along i.0) c.loop.self.place (Ok (o.field-0, c.expression.new.self.place)) o.ensures.is in
     let k : c.args.n - c.loop.counter - 1 ≡ c.args.n - (c.loop.counter + 1) = omega arith in (
@@ -259,7 +259,7 @@ arm-overflow_add-self t c =
     let s = c.args.self.now in
     let here = arm_is _ c.in_ok-arm.arm (sym c.in_ok-arm.ensures.ok_part ∙ c.arm_at.ensures) in
     let h = at_below (tokens_at s) s.place _ here in
-    let l = s.card.now.few in
+    let l = s.card.now.tokens.few in
     search rules
 
 pub arm-invariant_of-self : goal.arm-invariant_of-self
@@ -337,7 +337,7 @@ others_alike-loop-first-preserved t c =
 pub others_alike-overflow_add-self : goal.others_alike-overflow_add-self
 others_alike-overflow_add-self t c =
     let h = closed_below (tokens_at c.loop-first.self) c.loop-first.self.place c.loop-first-test.ensures in
-    let l = c.loop-first.self.card.now.few in
+    let l = c.loop-first.self.card.now.tokens.few in
     search rules
 
 pub others_alike-returns-clause-on : goal.others_alike-returns-clause-on

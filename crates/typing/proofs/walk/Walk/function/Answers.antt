@@ -12,13 +12,13 @@ returns-in_default-clause-is c = no_place (tokens_at c.args.self.now) c.args.num
 pub overflow_add-self : goal.overflow_add-self
 overflow_add-self c =
     let h = function_below (tokens_at c.args.self.now) 0 c.args.number c.in-Some.place (sym c.in-Some.ensures) in
-    let l = c.args.self.now.card.now.few in
+    let l = c.args.self.now.card.now.tokens.few in
     search rules
 
 pub overflow_add-self-2 : goal.overflow_add-self-2
 overflow_add-self-2 c =
     let h = function_below (tokens_at c.args.self.now) 0 c.args.number c.in-Some.place (sym c.in-Some.ensures) in
-    let l = c.args.self.now.card.now.few in
+    let l = c.args.self.now.card.now.tokens.few in
     let n = few_types c.in-Some-function_types.signature.parameters in
     let m = c.len-n.ensures in
     search rules

@@ -15,7 +15,7 @@ returns-in_err-ty-clause-is c =
 pub overflow_add-self : goal.overflow_add-self
 overflow_add-self c =
     let h = at_below (tokens_at c.args.self.now) c.args.self.now.place _ c.requires in
-    let l = c.args.self.now.card.now.few in
+    let l = c.args.self.now.card.now.tokens.few in
     search rules
 
 pub returns-clause-on : goal.returns-clause-on
