@@ -12,5 +12,4 @@ pub fn runs_hold()
     ensures stores { AlikeOverStores }
     ensures equal { AlikeOverEqualMosts }
     ensures worked { KInTurns }
-{
-}
+{}

@@ -20,5 +20,4 @@ pub fn verdict_holds()
     ensures card { KAccepted }
     ensures without4 { KWithout4 }
     ensures without16 { KWithout16 }
-{
-}
+{}
