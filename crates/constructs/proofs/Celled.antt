@@ -11,7 +11,7 @@ use Rattle.battery.specs.Cell.{Cell, text_cell, enum_cell, placed, added, append
 use Rattle.battery.specs.Rules.{Move as RuleMove}
 use Rattle.battery.specs.Rules.{Setup, gives, stops, pairs, same_bytes}
 use Rattle.cells.specs.Meaning.{values_of}
-use Rattle.cells.specs.declared.values.Values.{Values}
+use Rattle.few.specs.declared.items.Few.{Few}
 use Rattle.table.specs.declared.token.Token.TheVariants.{Expr as EXPR}
 use Rattle.table.specs.declared.token.Head.TheVariants.{Leaf as LEAF, Many as MANY}
 use Rattle.table.specs.declared.token.Leaf.TheVariants.{Text as STR}
@@ -69,8 +69,8 @@ pairs_rest (suc n) (x ∷ xs) (y ∷ ys) (u ∷ a) (v ∷ b) l m o p q =
     let r = pairs_rest n xs ys a b (omega arith) (omega arith) o' (cc) (cc) in
     let s = rest_cons n 0 u v a b in cc
 
-pub values_few : (v : Values) → length (values_of v) ≤ 4
-values_few v = let r = v.room in let w = v.whole in let l = length-take-le v.len v.list (omega arith) in omega arith
+pub values_few : (v : Few Value 4) → length (values_of v) ≤ 4
+values_few v = let r = v.room in let w = v.whole in let l = length-take-le v.len v.items (omega arith) in omega arith
 
 -- `==` of texts answers as the rules do
 one_test : (a b : Bool) {P : Type 0} → (a ≡ true) ↔ P → (b ≡ true) ↔ P → a ≡ b

@@ -19,5 +19,5 @@ pub(crate) fn bind_above(
 {
     let count = (height - base) as usize;
     let part = &mut entries[base as usize..];
-    bind_all(part, count, first, values);
+    let _ = bind_all(part, count, first, values);
 }

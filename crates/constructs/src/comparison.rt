@@ -16,7 +16,7 @@ use stores::Store;
 fn four(values: &Values) -> [Value; 4]
     ensures { take (length (values_of values.now)) result ≡ values_of values.now }
 {
-    let list = values.slice();
+    let list = values.as_slice();
     let mut all = [Value::Unit; 4];
     all[0..list.len()].copy_from_slice(list);
     all
@@ -29,8 +29,8 @@ fn paired(at: u16, one: &Values, other: &Values) -> Pairs
     ensures next { result.next ≡ 0 }
     ensures left { result.left ≤ 4 }
 {
-    let a = one.slice().len();
-    let b = other.slice().len();
+    let a = one.as_slice().len();
+    let b = other.as_slice().len();
     let left = if a < b { a } else { b };
     Pairs {
         at,

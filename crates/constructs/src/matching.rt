@@ -63,7 +63,7 @@ pub(crate) fn matching<S: Store>(
     let Some(arm) = arm_for(program, from, value.case) else {
         return Move::Stuck;
     };
-    let fields = value.fields.slice();
+    let fields = value.fields.as_slice();
     if fields.len() != arm.names as usize {
         return Move::Stuck;
     }

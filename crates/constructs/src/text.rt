@@ -31,8 +31,8 @@ fn laid(all: &mut [u8], from: usize, bytes: &[u8])
 fn joined(a: &Text, b: &Text) -> Option<Text>
     ensures { option_map text_of result ≡ (if nat_le (length (text_of a.now ++ text_of b.now)) 24 then Some (text_of a.now ++ text_of b.now) else None) }
 {
-    let one = a.bytes();
-    let other = b.bytes();
+    let one = a.as_slice();
+    let other = b.as_slice();
     let len = one.len() + other.len();
     if len > 24 {
         return None;

@@ -41,11 +41,11 @@ pub fn begin<S: Store>(program: &Program, run: &mut Run<S>, f: u16, args: &Value
     let Some(function) = program.function(f) else {
         return false;
     };
-    let values = args.slice();
+    let values = args.as_slice();
     if values.len() != function.parameters as usize {
         return false;
     }
-    if !bind_all(&mut run.entries, 0, 0, values) {
+    if bind_all(&mut run.entries, 0, 0, values).is_err() {
         return false;
     }
     run.stack.clear();

@@ -10,8 +10,8 @@ returns c =
     let xs = values_of c.args.one.now in
     let ys = values_of c.args.other.now in
     let x = values_few c.args.one.now in
-    let a : length c.slice-a.result.now ≡ length xs = ap length c.slice-a.ensures in
-    let b : length c.slice-b.result.now ≡ length ys = ap length c.slice-b.ensures in
+    let a : length c.as_slice-a.result.now ≡ length xs = ap length c.as_slice-a.ensures in
+    let b : length c.as_slice-b.result.now ≡ length ys = ap length c.as_slice-b.ensures in
     let t : (c.if-a-b.left ≤ length xs) × (c.if-a-b.left ≤ length ys) × ((length xs ≤ c.if-a-b.left) ⊎ (length ys ≤ c.if-a-b.left)) =
     elim c.if-a-b.branch [
       | then-a-b w ↦ let l = w.left-is in let h = w.if-a-b.true in (omega arith, omega arith, inl (omega arith))

@@ -46,7 +46,7 @@ returns-then-fields-arm g c =
     let q = (next_arms k w.job.at c.end-from.result c.end-from.ensures n.1).0 in
     match_not k w (g.S.Store.cells c.args.store.now) _ _ n.2 c.in-Some.v (enum_of value) c.in-Some.ensures c.in-Some-enum_at.ensures c.args.entries.now c.in-Some-arm_for.arm
     (subst (λ m. OfArm (text_in k) (tokens_in k) (arm_of (arms_at (text_in k) (tokens_in k) m) value.case) (Some c.in-Some-arm_for.arm)) q c.in-Some-arm_for.ensures)
-    (λ e. c.if-fields-arm.true (ap length c.slice-fields.ensures ∙ e))
+    (λ e. c.if-fields-arm.true (ap length c.as_slice-fields.ensures ∙ e))
 
 pub returns : goal.returns
 returns g c =
@@ -55,11 +55,11 @@ returns g c =
     let value = c.in-Some-enum_at.value in
     let n = node_of k w.job.at MATCH c.requires.0.start c.requires.1 in
     let q = (next_arms k w.job.at c.end-from.result c.end-from.ensures n.1).0 in
-    let l = ap length c.slice-fields.ensures in
+    let l = ap length c.as_slice-fields.ensures in
     let few = values_few value.fields in
-    let height : w.job.height + length c.slice-fields.result.now ≡ w.job.height + length (values_of value.fields) = omega arith in
-    let b = rw c.slice-fields.ensures at c.bind_above.ensures.scope in
+    let height : w.job.height + length c.as_slice-fields.result.now ≡ w.job.height + length (values_of value.fields) = omega arith in
+    let b = rw c.as_slice-fields.ensures at c.bind_above.ensures.scope in
     match_did k w (g.S.Store.cells c.args.store.now) _ _ n.2 c.in-Some.v (enum_of value) c.in-Some.ensures c.in-Some-enum_at.ensures c.args.entries.now c.bind_above.new.entries
-    c.in-Some-arm_for.arm (w.job.height + length c.slice-fields.result.now)
+    c.in-Some-arm_for.arm (w.job.height + length c.as_slice-fields.result.now)
     (subst (λ m. OfArm (text_in k) (tokens_in k) (arm_of (arms_at (text_in k) (tokens_in k) m) value.case) (Some c.in-Some-arm_for.arm)) q c.in-Some-arm_for.ensures)
     (sym l ∙ c.if-fields-arm.false) c.requires.0.based height (omega arith) c.bind_above.ensures.agree b

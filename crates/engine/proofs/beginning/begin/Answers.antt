@@ -15,11 +15,11 @@ returns g c =
     let k = c.args.program.now in
     let a = c.args.args.now in
     let vs = values_of a in
-    let is : c.slice-values.result.now ≡ vs = c.slice-values.ensures in
-    let few : length vs ≤ 4 = (let l = length-take-le a.len a.list (omega arith) in omega arith) in
-    let counted : length c.slice-values.result.now ≡ length vs = ap length is in
+    let is : c.as_slice-values.result.now ≡ vs = c.as_slice-values.ensures in
+    let few : length vs ≤ 4 = (let l = length-take-le a.len a.items (omega arith) in omega arith) in
+    let counted : length c.as_slice-values.result.now ≡ length vs = ap length is in
     let o = c.in-Some.ensures (card_in k) (spelt_card k) in
-    let s = c.if-not-bind_all.ensures.scope refl in
-    let r = begun k c.args.f c.in-Some.function vs c.bind_all.new.entries c.args.run.now.entries (held c.clear.new.self) (g.S.Store.cells c.args.run.now.store) (g.S.Store.limit c.args.run.now.store) (length c.slice-values.result.now) o counted (omega arith) few c.clear.ensures
+    let s = c.if-bind_all-is_err.ensures.scope refl in
+    let r = begun k c.args.f c.in-Some.function vs c.bind_all.new.entries c.args.run.now.entries (held c.clear.new.self) (g.S.Store.cells c.args.run.now.store) (g.S.Store.limit c.args.run.now.store) (length c.as_slice-values.result.now) o counted (omega arith) few c.clear.ensures
     (subst (λ (xs : List Value). scope_of (take (0 + length xs) c.bind_all.new.entries) ≡ bind 0 xs (scope_of (take 0 c.args.run.now.entries))) is s) in
     ((r.fn, r.takes, r.view), r.sound, refl)
