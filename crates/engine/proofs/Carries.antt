@@ -403,9 +403,12 @@ module _ (k : Program) where
       → carry k (setup k most) es l' (u + 1) cs ≡ settle (setup k most) (resume (setup k most) (frames k es l)) p.at (frames k es l) (u + 1) cs (verdict (Fields q))
   pair_fields es l l' u most cs p q e x = rw (x, e)
 
-pub turn_less : (S : Setup) (n : ℕ) (s : State) → 0 < n → turn S n s ≡ turn S (n - 1) (step S s)
-turn_less S zero s h = absurd (omega arith)
-turn_less S (suc n) s h = let e : suc n - 1 ≡ n = omega arith in rw e
+-- a turn's units one by one
+turned_by : (S : Setup) (n : ℕ) (s s' : State) → s' ≡ step S s → turn S n s' ≡ turn S (suc n) s
+turned_by S n s s' e = ap (turn S n) e
+
+pub turned : (S : Setup) (i n : ℕ) (s s' : State) → i < n → s' ≡ step S s → turn S (n - (i + 1)) s' ≡ turn S (n - i) s
+turned S i n s s' h e = let m : suc (n - (i + 1)) ≡ n - i = omega arith in turned_by S (n - (i + 1)) s s' e ∙ ap (λ m. turn S m s) m
 
 pub hand_rounds : {X : Type 0} (cells : X → List Cell) (limit : X → ℕ) (k : Program) (r m r' : Run X) (v : Value) (b : Bool) → Handed cells k (setup k (limit r.store)) m r' v b
     → resume (setup k (limit r.store)) (frames k m.entries (held m.stack)) v m.units (cells m.store) ≡ carry k (setup k (limit r.store)) r.entries (held r.stack) r.units (cells r.store)

@@ -33,27 +33,36 @@ pub fn idle<S: Store>(store: S) -> Run<S>
     }
 }
 
-// Begins a run of a function on its arguments; false, with nothing changed, where the card has no
-// such function or it takes another count of arguments.
-pub fn begin<S: Store>(program: &Program, run: &mut Run<S>, f: u16, args: &Values) -> bool
+// Why a run is not begun.
+#[derive(Clone, Copy, PartialEq, Debug)]
+pub enum NotBegun {
+    // The card has no such function.
+    NoFunction,
+    // The function takes another count of arguments.
+    OtherCount,
+}
+
+// Begins a run of a function on its arguments; where it does not, nothing has changed.
+pub fn begin<S: Store>(
+    program: &Program,
+    run: &mut Run<S>,
+    f: u16,
+    args: &Values,
+) -> Result<(), NotBegun>
     ensures { Begun S.Store.cells (S.Store.limit run.old.store) program.now run.old run.new f (values_of args.now) result }
 {
-    let Some(function) = program.function(f) else {
-        return false;
-    };
-    let values = args.as_slice();
-    if values.len() != function.parameters as usize {
-        return false;
+    let function = program.function(f).ok_or(NotBegun::NoFunction)?;
+    if args.len() != function.parameters as usize {
+        return Err(NotBegun::OtherCount);
     }
-    if bind_all(&mut run.entries, 0, 0, values).is_err() {
-        return false;
-    }
+    // There is room for more entries than a function has parameters.
+    let _ = bind_all(&mut run.entries, 0, 0, args.as_slice());
     run.stack.clear();
     run.units = 0;
     run.stage = Stage::Going(Job {
         at: function.body,
         base: 0,
-        height: values.len() as u16,
+        height: args.len() as u16,
     });
-    true
+    Ok(())
 }

@@ -222,11 +222,9 @@ pub fn advance<S: Store>(program: &Program, run: &mut Run<S>, units: u16)
     ensures does { view S.Store.cells program.now run.new ≡ turn (setup program.now (S.Store.limit run.old.store)) units (view S.Store.cells program.now run.old) }
     ensures sound { Sound program.now run.new }
 {
-    let mut left = units;
-    while left > 0 {
+    for _ in 0..units {
         if !step_once(program, run) {
             return;
         }
-        left -= 1;
     }
 }
