@@ -1,3 +1,3 @@
-pub mod Constants
 pub mod Celled
 pub mod Armed
+pub mod Values

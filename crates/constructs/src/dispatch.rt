@@ -4,7 +4,7 @@ ghost use Rattle.frames.specs.Trees.{head_at};
 ghost use Rattle.frames.specs.Views.{Did, Ready};
 
 use crate::call::call;
-use crate::leaf::{constant, local};
+use crate::leaf::local;
 use crate::make::{exit, make};
 use crate::matching::matching;
 use crate::plain::{branch, calc, equal, less, sequence, val};
@@ -22,15 +22,18 @@ fn leaf_rule<S: Store>(
     w: &Wait,
     store: &mut S,
     leaf: Leaf,
-) -> Move
-    requires { (Ready program.now w.now) × (head_at program.now w.now.job.at ≡ Some (LEAF leaf)) }
+) -> Option<Move>
+    requires ready { Ready program.now w.now }
+    requires head { head_at program.now w.now.job.at ≡ Some (LEAF leaf) }
     ensures most { S.Store.limit store.new ≡ S.Store.limit store.old }
     ensures does { Did program.now (S.Store.limit store.old) w.now entries.now entries.now (S.Store.cells store.old) (S.Store.cells store.new) result }
 {
     match leaf {
+        Leaf::Unit => Some(Move::Gives(Value::Unit)),
+        Leaf::Number(n) => Some(Move::Gives(Value::Number(n))),
+        Leaf::Boolean(b) => Some(Move::Gives(Value::Boolean(b))),
         Leaf::Text { place, length } => string(program, w, place, length, store),
         Leaf::Local(name) => local(program, entries, w, name),
-        Leaf::Unit | Leaf::Number(_) | Leaf::Boolean(_) => constant(program, w, leaf),
     }
 }
 
@@ -40,8 +43,9 @@ fn pair_rule<S: Store>(
     w: &Wait,
     store: &mut S,
     pair: Pair,
-) -> Move
-    requires { (Ready program.now w.now) × (head_at program.now w.now.job.at ≡ Some (PAIR pair)) }
+) -> Option<Move>
+    requires ready { Ready program.now w.now }
+    requires head { head_at program.now w.now.job.at ≡ Some (PAIR pair) }
     ensures most { S.Store.limit store.new ≡ S.Store.limit store.old }
     ensures does { Did program.now (S.Store.limit store.old) w.now entries.old entries.new (S.Store.cells store.old) (S.Store.cells store.new) result }
 {
@@ -61,19 +65,18 @@ pub fn rule<S: Store>(
     entries: &mut [Entry<Value>; 1028],
     w: &Wait,
     store: &mut S,
-) -> Move
+) -> Option<Move>
     requires { Ready program.now w.now }
     ensures most { S.Store.limit store.new ≡ S.Store.limit store.old }
     ensures does { Did program.now (S.Store.limit store.old) w.now entries.old entries.new (S.Store.cells store.old) (S.Store.cells store.new) result }
 {
-    match program.head(w.job.at) {
-        Some(Head::Leaf(leaf)) => leaf_rule(program, entries, w, store, leaf),
-        Some(Head::Pair(pair)) => pair_rule(program, entries, w, store, pair),
-        Some(Head::If) => branch(program, w),
-        Some(Head::Match) => matching(program, entries, w, store),
-        Some(Head::Exit) => exit(program, w, store),
-        Some(Head::Many(_, Many::Call(f))) => call(program, entries, w, f),
-        Some(Head::Many(_, Many::Make { of, case })) => make(program, w, store, of, case),
-        None => Move::Stuck,
+    match program.head(w.job.at)? {
+        Head::Leaf(leaf) => leaf_rule(program, entries, w, store, leaf),
+        Head::Pair(pair) => pair_rule(program, entries, w, store, pair),
+        Head::If => branch(program, w),
+        Head::Match => matching(program, entries, w, store),
+        Head::Exit => exit(program, w, store),
+        Head::Many(_, Many::Call(f)) => call(program, entries, w, f),
+        Head::Many(_, Many::Make { of, case }) => Some(make(program, w, store, of, case)),
     }
 }

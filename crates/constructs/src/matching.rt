@@ -11,34 +11,24 @@ use crate::binding::bind_above;
 use crate::lookups::enum_at;
 use crate::values::only;
 use battery::Value;
-use frames::{Job, Move, Wait};
+use frames::{Job, Judgement, Move, Wait};
 use program::Program;
 use scope::Entry;
 use stores::Store;
+use table::Arm;
 
-// An arm: how many names it binds, the first of them, and where its part begins.
-#[derive(Clone, Copy)]
-pub(crate) struct Found {
-    names: u8,
-    first: u16,
-    part: u16,
-}
-
-// The arm of a case, among those that stand from a place on.
-fn arm_for(program: &Program, from: u16, case: u8) -> Option<Found>
+// The arm of a case, among those that stand from a place on, and where its part begins.
+fn arm_for(program: &Program, from: u16, case: u8) -> Option<(Arm, u16)>
     requires { ArmsStand (text_in program.now) (tokens_in program.now) from }
     ensures { OfArm (text_in program.now) (tokens_in program.now) (arm_of (arms_at (text_in program.now) (tokens_in program.now) from) case) result }
 {
     let mut place = from;
     while let Some(arm) = program.arm(place) {
+        let part = place + 1;
         if case == arm.case {
-            return Some(Found {
-                names: arm.names,
-                first: arm.first,
-                part: place + 1,
-            });
+            return Some((arm, part));
         }
-        place = program.end(place + 1);
+        place = program.end(part);
     }
     None
 }
@@ -49,28 +39,23 @@ pub(crate) fn matching<S: Store>(
     entries: &mut [Entry<Value>; 1028],
     w: &Wait,
     store: &S,
-) -> Move
-    requires { (Ready program.now w.now) × (head_at program.now w.now.job.at ≡ Some MATCH) }
+) -> Option<Move>
+    requires ready { Ready program.now w.now }
+    requires head { head_at program.now w.now.job.at ≡ Some MATCH }
     ensures { (most : ℕ) → Did program.now most w.now entries.old entries.new (S.Store.cells store.now) (S.Store.cells store.now) result }
 {
-    let Some(v) = only(w) else {
-        return Move::Stuck;
-    };
-    let Some(value) = enum_at(store, v) else {
-        return Move::Stuck;
-    };
+    let v = only(&w.values)?;
+    let value = enum_at(store, v)?;
     let from = program.end(w.job.at + 1);
-    let Some(arm) = arm_for(program, from, value.case) else {
-        return Move::Stuck;
-    };
+    let (arm, part) = arm_for(program, from, value.case)?;
     let fields = value.fields.as_slice();
     if fields.len() != arm.names as usize {
-        return Move::Stuck;
+        return None;
     }
     bind_above(entries, w.job.base, w.job.height, arm.first, fields);
-    Move::Goes(Job {
-        at: arm.part,
+    Some(Move::Goes(Judgement::Of(Job {
+        at: part,
         base: w.job.base,
         height: w.job.height + fields.len() as u16,
-    })
+    })))
 }

@@ -7,94 +7,69 @@ ghost use Rattle.frames.specs.Views.{Ready, Still, Did};
 
 use crate::binding::bind_above;
 use crate::numbers::calculated;
-use crate::values::{boolean, both, number, only};
+use crate::values::{boolean, both, both_numbers, only};
 use battery::{Arith, Value};
-use frames::{Job, Move, Pair, Wait};
+use frames::{Job, Judgement, Move, Pair, Wait};
 use program::Program;
 use scope::Entry;
 
 // CALC: a number of two numbers.
-pub(crate) fn calc(program: &Program, w: &Wait, op: Arith) -> Move
-    requires { (Ready program.now w.now) × (head_at program.now w.now.job.at ≡ Some (PAIR (CALC op))) }
+pub(crate) fn calc(program: &Program, w: &Wait, op: Arith) -> Option<Move>
+    requires ready { Ready program.now w.now }
+    requires head { head_at program.now w.now.job.at ≡ Some (PAIR (CALC op)) }
     ensures { Still program.now w.now result }
 {
-    let Some((a, b)) = both(w) else {
-        return Move::Stuck;
-    };
-    let Some(m) = number(a) else {
-        return Move::Stuck;
-    };
-    let Some(n) = number(b) else {
-        return Move::Stuck;
-    };
-    calculated(w.job.at, op, m, n)
+    let (m, n) = both_numbers(&w.values)?;
+    Some(calculated(w.job.at, op, m, n))
 }
 
 // LT: whether the first of two numbers is less.
-pub(crate) fn less(program: &Program, w: &Wait) -> Move
-    requires { (Ready program.now w.now) × (head_at program.now w.now.job.at ≡ Some (PAIR LT)) }
+pub(crate) fn less(program: &Program, w: &Wait) -> Option<Move>
+    requires ready { Ready program.now w.now }
+    requires head { head_at program.now w.now.job.at ≡ Some (PAIR LT) }
     ensures { Still program.now w.now result }
 {
-    let Some((a, b)) = both(w) else {
-        return Move::Stuck;
-    };
-    let Some(m) = number(a) else {
-        return Move::Stuck;
-    };
-    let Some(n) = number(b) else {
-        return Move::Stuck;
-    };
-    Move::Gives(Value::Boolean(m < n))
+    let (m, n) = both_numbers(&w.values)?;
+    Some(Move::Gives(Value::Boolean(m < n)))
 }
 
 // EQ: on to the comparison of the two values.
-pub(crate) fn equal(program: &Program, w: &Wait) -> Move
-    requires { (Ready program.now w.now) × (head_at program.now w.now.job.at ≡ Some (PAIR EQ)) }
+pub(crate) fn equal(program: &Program, w: &Wait) -> Option<Move>
+    requires ready { Ready program.now w.now }
+    requires head { head_at program.now w.now.job.at ≡ Some (PAIR EQ) }
     ensures { Still program.now w.now result }
 {
-    let Some((one, other)) = both(w) else {
-        return Move::Stuck;
-    };
-    Move::Compares(Pair {
+    let (one, other) = both(&w.values)?;
+    Some(Move::Goes(Judgement::Same(Pair {
         at: w.job.at,
         one,
         other,
-    })
+    })))
 }
 
 // SEQ: on to the second part, whatever the first came to.
-pub(crate) fn sequence(program: &Program, w: &Wait) -> Move
-    requires { (Ready program.now w.now) × (head_at program.now w.now.job.at ≡ Some (PAIR SEQ)) }
+pub(crate) fn sequence(program: &Program, w: &Wait) -> Option<Move>
+    requires ready { Ready program.now w.now }
+    requires head { head_at program.now w.now.job.at ≡ Some (PAIR SEQ) }
     ensures { Still program.now w.now result }
 {
-    let Some(_) = only(w) else {
-        return Move::Stuck;
-    };
-    Move::Goes(Job {
+    only(&w.values)?;
+    Some(Move::Goes(Judgement::Of(Job {
         at: program.end(w.job.at + 1),
-        base: w.job.base,
-        height: w.job.height,
-    })
+        ..w.job
+    })))
 }
 
 // IF: on to the second part, or to the third, which stands behind it.
-pub(crate) fn branch(program: &Program, w: &Wait) -> Move
-    requires { (Ready program.now w.now) × (head_at program.now w.now.job.at ≡ Some IF) }
+pub(crate) fn branch(program: &Program, w: &Wait) -> Option<Move>
+    requires ready { Ready program.now w.now }
+    requires head { head_at program.now w.now.job.at ≡ Some IF }
     ensures { Still program.now w.now result }
 {
-    let Some(v) = only(w) else {
-        return Move::Stuck;
-    };
-    let Some(yes) = boolean(v) else {
-        return Move::Stuck;
-    };
+    let yes = boolean(only(&w.values)?)?;
     let first = program.end(w.job.at + 1);
     let at = if yes { first } else { program.end(first) };
-    Move::Goes(Job {
-        at,
-        base: w.job.base,
-        height: w.job.height,
-    })
+    Some(Move::Goes(Judgement::Of(Job { at, ..w.job })))
 }
 
 // VAL: on to the second part, with the name bound to what the first came to.
@@ -103,17 +78,16 @@ pub(crate) fn val(
     entries: &mut [Entry<Value>; 1028],
     w: &Wait,
     name: u16,
-) -> Move
-    requires { (Ready program.now w.now) × (head_at program.now w.now.job.at ≡ Some (PAIR (VAL name))) }
+) -> Option<Move>
+    requires ready { Ready program.now w.now }
+    requires head { head_at program.now w.now.job.at ≡ Some (PAIR (VAL name)) }
     ensures { (most : ℕ) (cs : List Cell) → Did program.now most w.now entries.old entries.new cs cs result }
 {
-    let Some(v) = only(w) else {
-        return Move::Stuck;
-    };
+    let v = only(&w.values)?;
     bind_above(entries, w.job.base, w.job.height, name, &[v]);
-    Move::Goes(Job {
+    Some(Move::Goes(Judgement::Of(Job {
         at: program.end(w.job.at + 1),
         base: w.job.base,
         height: w.job.height + 1,
-    })
+    })))
 }

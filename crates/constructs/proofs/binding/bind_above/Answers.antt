@@ -12,4 +12,4 @@ returns-clause-agree c =
     let d = length-drop b es in
     let m = length-take-le (1028 - b) (drop b es) (omega arith) in
     let y : length ys ≡ length (take (1028 - b) (drop b es)) = c.bind_all.auto.entries in
-    part_agrees es ys _ b c.args.height (1028 - b) c.requires.0 (omega arith) (omega arith) (omega arith) c.bind_all.ensures.below
+    part_agrees es ys _ b c.args.height (1028 - b) c.requires.based (omega arith) (omega arith) (omega arith) c.bind_all.ensures.below

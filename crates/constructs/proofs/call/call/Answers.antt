@@ -1,30 +1,33 @@
-use Rattle.std.proofs.Common.{◌≡◌, ◌+◌, ◌-◌, length, sym, ◌∙◌, arith}
-use Rattle.std.proofs.lemmas.List.{length-take-le}
+use Rattle.std.proofs.Common.{◌+◌, length, sym, ◌∙◌, ap, refl, arith}
+use Rattle.table.specs.declared.token.Head.TheVariants.{Many as MANY}
+use Rattle.table.specs.declared.token.Many.TheVariants.{Call as CALL}
 use Rattle.program.specs.Views.{card_in}
 use Rattle.program.proofs.Spelt.{spelt_card}
-use Rattle.frames.specs.Views.{vals}
+use Rattle.constructs.proofs.Moves.{node_of, stuck_did}
 use Rattle.constructs.proofs.Bindings.{call_none, call_not, call_did}
+use Rattle.constructs.proofs.Celled.{values_few}
 use Rattle.constructs.proofs.call.call.Goals as goal
 
-pub returns-in_default : goal.returns-in_default
-returns-in_default c =
-    call_none c.args.program.now c.args.w.now c.requires.1.0 c.args.f c.requires.0.start c.requires.1.1 c.args.entries.now (c.in_default.ensures (card_in c.args.program.now) (spelt_card c.args.program.now))
+pub returns-in_err-called : goal.returns-in_err-called
+returns-in_err-called c most cs =
+    let n = node_of c.args.program.now c.args.w.now.job.at (MANY c.requires.head.0 (CALL c.args.f)) c.requires.ready.start c.requires.head.1 in
+    let h = c.in_err-called.ensures (card_in c.args.program.now) (spelt_card c.args.program.now) in
+    stuck_did c.args.program.now c.args.w.now most c.args.entries.now cs _ c.from_residual.ensures (call_none c.args.program.now c.args.w.now c.args.f n.1 c.args.entries.now h most cs)
 
-pub returns-then-called-w : goal.returns-then-called-w
-returns-then-called-w c =
-    let w = c.args.w.now in
-    let r = c.requires.0 in
-    let n = length-take-le w.have w.values (omega arith) in
-    call_not c.args.program.now w c.requires.1.0 c.args.f c.requires.0.start c.requires.1.1 c.args.entries.now c.in-Some.called (c.in-Some.ensures (card_in c.args.program.now) (spelt_card c.args.program.now))
-    (λ q. c.if-called-w.true (q ∙ n))
+pub returns-then-values-called : goal.returns-then-values-called
+returns-then-values-called c most cs =
+    let n = node_of c.args.program.now c.args.w.now.job.at (MANY c.requires.head.0 (CALL c.args.f)) c.requires.ready.start c.requires.head.1 in
+    let h = c.in_ok-called.ensures (card_in c.args.program.now) (spelt_card c.args.program.now) in
+    let l = ap length c.as_slice-values.ensures in
+    stuck_did c.args.program.now c.args.w.now most c.args.entries.now cs _ refl (call_not c.args.program.now c.args.w.now c.args.f n.1 c.args.entries.now c.in_ok-called.called h (λ e. c.if-values-called.true (l ∙ e)) most cs)
 
 pub returns : goal.returns
-returns c =
-    let w = c.args.w.now in
-    let r = c.requires.0 in
-    let n = length-take-le w.have w.values (omega arith) in
-    let z : w.have - 0 ≡ w.have = omega arith in
-    let v = rw z at c.bind_above.ensures.scope in
-    let h : w.job.height + w.have ≡ w.job.height + length (vals w) = omega arith in
-    call_did c.args.program.now w c.requires.1.0 c.args.f c.requires.0.start c.requires.1.1 c.args.entries.now c.bind_above.new.entries c.in-Some.called (w.job.height + w.have)
-    (c.in-Some.ensures (card_in c.args.program.now) (spelt_card c.args.program.now)) (c.if-called-w.false ∙ sym n) h (omega arith) c.bind_above.ensures.agree v
+returns c most cs =
+    let n = node_of c.args.program.now c.args.w.now.job.at (MANY c.requires.head.0 (CALL c.args.f)) c.requires.ready.start c.requires.head.1 in
+    let h = c.in_ok-called.ensures (card_in c.args.program.now) (spelt_card c.args.program.now) in
+    let is = c.as_slice-values.ensures in
+    let l = ap length is in
+    let few = values_few c.args.w.now.values in
+    let v = rw is at c.bind_above.ensures.scope in
+    call_did c.args.program.now c.args.w.now c.args.f n.1 c.args.entries.now c.bind_above.new.entries c.in_ok-called.called (c.args.w.now.job.height + length c.as_slice-values.result.now) h (sym l ∙ c.if-values-called.false)
+    (ap (λ m. c.args.w.now.job.height + m) l) (omega arith) c.bind_above.ensures.agree v most cs

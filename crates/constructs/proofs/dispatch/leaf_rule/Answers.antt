@@ -1,11 +1,28 @@
-use Rattle.std.proofs.Common.{refl}
+-- A leaf says its value, or its rule does.
+use Rattle.std.proofs.Common.{w32, SFits, rules}
+use Rattle.std.proofs.lemmas.Int.{to_z-of_z}
+use Rattle.table.specs.declared.token.Head.TheVariants.{Leaf as LEAF}
+use Rattle.constructs.proofs.Moves.{node_of, still}
 use Rattle.constructs.proofs.dispatch.leaf_rule.Goals as goal
 
-pub returns-in-Text : goal.returns-in-Text
-returns-in-Text g c = record { most = c.string.ensures.most; does = c.string.ensures.does c.args.entries.now }
+pub returns-in-Unit-clause-does : goal.returns-in-Unit-clause-does
+returns-in-Unit-clause-does g c =
+    let n = node_of c.args.program.now c.args.w.now.job.at (LEAF c.args.leaf) c.requires.ready.start c.requires.head in
+    still c.args.program.now c.args.w.now _ _ _ _ (rw (n, c.in-Unit.is)) tt
 
-pub returns-in-Local : goal.returns-in-Local
-returns-in-Local g c = record { most = refl; does = c.local.ensures (g.S.Store.limit c.args.store.now) (g.S.Store.cells c.args.store.now) }
+pub returns-in-Number-clause-does : goal.returns-in-Number-clause-does
+returns-in-Number-clause-does g c =
+    let n = node_of c.args.program.now c.args.w.now.job.at (LEAF c.args.leaf) c.requires.ready.start c.requires.head in
+    let f : SFits w32 c.in-Number.n = search rules in
+    still c.args.program.now c.args.w.now _ _ _ _ (rw (n, c.in-Number.is, to_z-of_z w32 c.in-Number.n f)) tt
 
-pub returns-in-Unit : goal.returns-in-Unit
-returns-in-Unit g c = record { most = refl; does = c.constant.ensures (g.S.Store.limit c.args.store.now) c.args.entries.now (g.S.Store.cells c.args.store.now) }
+pub returns-in-Boolean-clause-does : goal.returns-in-Boolean-clause-does
+returns-in-Boolean-clause-does g c =
+    let n = node_of c.args.program.now c.args.w.now.job.at (LEAF c.args.leaf) c.requires.ready.start c.requires.head in
+    still c.args.program.now c.args.w.now _ _ _ _ (rw (n, c.in-Boolean.is)) tt
+
+pub returns-in-Text-clause-does : goal.returns-in-Text-clause-does
+returns-in-Text-clause-does g c = c.string.ensures.does _
+
+pub returns-in-Local-clause-does : goal.returns-in-Local-clause-does
+returns-in-Local-clause-does g c = c.local.ensures _ _

@@ -1,20 +1,23 @@
+use Rattle.std.proofs.Common.{sym}
 use Rattle.table.specs.declared.token.Head.TheVariants.{Exit as EXIT}
+use Rattle.machine.specs.Machine.{of_cell, of_text}
 use Rattle.cells.specs.Meaning.{text_of}
-use Rattle.constructs.proofs.Moves.{node_of}
-use Rattle.constructs.proofs.Celled.{exit_none, exit_no_text, exit_did}
+use Rattle.constructs.proofs.Moves.{node_of, still, stuck_did, bound, unbound}
 use Rattle.constructs.proofs.make.exit.Goals as goal
 
-pub returns-in_default : goal.returns-in_default
-returns-in_default g c =
-    let n = node_of c.args.program.now c.args.w.now.job.at EXIT c.requires.0.start c.requires.1 in
-    exit_none c.args.program.now c.args.w.now (g.S.Store.cells c.args.store.now) _ _ n.1.1 c.in_default.ensures
+pub returns-in_err-v : goal.returns-in_err-v
+returns-in_err-v g c most es =
+    let n = node_of c.args.program.now c.args.w.now.job.at EXIT c.requires.ready.start c.requires.head in
+    stuck_did c.args.program.now c.args.w.now most es (g.S.Store.cells c.args.store.now) _ c.from_residual.ensures (rw (n.1.1, ← c.in_err-v.ensures))
 
-pub returns-in_default-text_at : goal.returns-in_default-text_at
-returns-in_default-text_at g c =
-    let n = node_of c.args.program.now c.args.w.now.job.at EXIT c.requires.0.start c.requires.1 in
-    exit_no_text c.args.program.now c.args.w.now (g.S.Store.cells c.args.store.now) _ _ n.1.1 c.in-Some.v c.in-Some.ensures c.in_default-text_at.ensures
+pub returns-in_err-text_at : goal.returns-in_err-text_at
+returns-in_err-text_at g c most es =
+    let n = node_of c.args.program.now c.args.w.now.job.at EXIT c.requires.ready.start c.requires.head in
+    let cs = g.S.Store.cells c.args.store.now in
+    stuck_did c.args.program.now c.args.w.now most es cs _ c.from_residual-in_err-text_at.ensures (rw (n.1.1, ← c.in_ok-v.ensures) (unbound (of_cell cs c.in_ok-v.v) of_text _ c.in_err-text_at.ensures))
 
 pub returns : goal.returns
-returns g c =
-    let n = node_of c.args.program.now c.args.w.now.job.at EXIT c.requires.0.start c.requires.1 in
-    exit_did c.args.program.now c.args.w.now (g.S.Store.cells c.args.store.now) _ _ n.1.1 c.in-Some.v (text_of c.in-Some-text_at.field-0) c.in-Some.ensures c.in-Some-text_at.ensures
+returns g c most es =
+    let n = node_of c.args.program.now c.args.w.now.job.at EXIT c.requires.ready.start c.requires.head in
+    let cs = g.S.Store.cells c.args.store.now in
+    still c.args.program.now c.args.w.now most es cs _ (rw (n.1.1, ← c.in_ok-v.ensures) (sym (bound (of_cell cs c.in_ok-v.v) of_text (text_of c.in_ok-text_at.field-0) _ c.in_ok-text_at.ensures))) tt

@@ -1,17 +1,13 @@
 use Rattle.battery.specs.Cell.{enum_cell}
-use Rattle.cells.specs.Meaning.{values_of}
-use Rattle.constructs.proofs.Celled.{put_did, make_puts}
+use Rattle.table.specs.declared.token.Head.TheVariants.{Many as MANY}
+use Rattle.table.specs.declared.token.Many.TheVariants.{Make as MAKE}
+use Rattle.frames.specs.Stacks.{vals}
+use Rattle.constructs.proofs.Moves.{node_of}
+use Rattle.constructs.proofs.Celled.{put_did}
 use Rattle.constructs.proofs.make.make.Goals as goal
 
-pub returns : goal.returns
-returns g c =
-    let k = c.args.program.now in
-    let w = c.args.w.now in
-    let most = g.S.Store.limit c.args.store.now in
-    let cs = g.S.Store.cells c.args.store.now in
-    let vs = values_of c.gathered-fields.result in
-    let a = make_puts k w most c.requires.1.0 c.args.of c.args.case cs vs c.requires.0.start c.requires.1.1 c.gathered-fields.ensures in
-    record {
-      most = c.placed.ensures.most;
-      does = put_did k w most w.job.at (enum_cell c.args.of c.args.case vs) cs (g.S.Store.cells c.placed.new.store) c.placed.result a c.placed.ensures.does c.placed.ensures.kept;
-    }
+pub returns-clause-does : goal.returns-clause-does
+returns-clause-does g c es =
+    let n = node_of c.args.program.now c.args.w.now.job.at (MANY c.requires.head.0 (MAKE c.args.of c.args.case)) c.requires.ready.start c.requires.head.1 in
+    put_did c.args.program.now c.args.w.now (g.S.Store.limit c.args.store.now) c.args.w.now.job.at (enum_cell c.args.of c.args.case (vals c.args.w.now)) (g.S.Store.cells c.args.store.now) (g.S.Store.cells c.placed.new.store) c.placed.result es (rw n.1)
+    c.placed.ensures.does c.placed.ensures.kept

@@ -1,65 +1,61 @@
-use Rattle.std.proofs.Common.{◌≡◌, ◌+◌, length, Some, None, sym, ap, ◌∙◌, subst, arith}
+-- The arms stand behind the first part.
+use Rattle.std.proofs.Common.{◌+◌, length, sym, ◌∙◌, ap, refl, arith}
 use Rattle.table.specs.declared.token.Head.TheVariants.{Match as MATCH}
-use Rattle.battery.specs.Rules.{arm_of}
-use Rattle.program.specs.Stands.{arms_at}
-use Rattle.program.specs.Views.{tokens_in, text_in}
-use Rattle.cells.specs.Meaning.{values_of}
-use Rattle.constructs.specs.Armed.{OfArm}
+use Rattle.machine.specs.Machine.{of_cell, of_enum}
 use Rattle.constructs.specs.Celled.{enum_of}
-use Rattle.constructs.proofs.Moves.{node_of}
+use Rattle.constructs.proofs.Moves.{node_of, stuck_did, unbound}
 use Rattle.constructs.proofs.Celled.{values_few}
-use Rattle.constructs.proofs.Armed.{next_arms, match_none, match_no_enum, match_no_arm, match_not, match_did}
+use Rattle.constructs.proofs.Armed.{next_arms, match_none, match_not, match_did}
 use Rattle.constructs.proofs.matching.matching.Goals as goal
 
-pub returns-in_default : goal.returns-in_default
-returns-in_default g c =
-    let n = node_of c.args.program.now c.args.w.now.job.at MATCH c.requires.0.start c.requires.1 in
-    match_none c.args.program.now c.args.w.now (g.S.Store.cells c.args.store.now) _ _ n.2 c.args.entries.now c.in_default.ensures
+pub returns-in_err-v : goal.returns-in_err-v
+returns-in_err-v g c most =
+    let n = node_of c.args.program.now c.args.w.now.job.at MATCH c.requires.ready.start c.requires.head in
+    stuck_did c.args.program.now c.args.w.now most c.args.entries.now (g.S.Store.cells c.args.store.now) _ c.from_residual.ensures (rw (n.2, ← c.in_err-v.ensures))
 
-pub returns-in_default-enum_at : goal.returns-in_default-enum_at
-returns-in_default-enum_at g c =
-    let n = node_of c.args.program.now c.args.w.now.job.at MATCH c.requires.0.start c.requires.1 in
-    match_no_enum c.args.program.now c.args.w.now (g.S.Store.cells c.args.store.now) _ _ n.2 c.args.entries.now c.in-Some.v c.in-Some.ensures c.in_default-enum_at.ensures
+pub returns-in_err-value : goal.returns-in_err-value
+returns-in_err-value g c most =
+    let n = node_of c.args.program.now c.args.w.now.job.at MATCH c.requires.ready.start c.requires.head in
+    let cs = g.S.Store.cells c.args.store.now in
+    stuck_did c.args.program.now c.args.w.now most c.args.entries.now cs _ c.from_residual-in_err-value.ensures (rw (n.2, ← c.in_ok-v.ensures) (unbound (of_cell cs c.in_ok-v.v) of_enum _ c.in_err-value.ensures))
 
 pub arm_for-requires : goal.arm_for-requires
 arm_for-requires g c =
-    let k = c.args.program.now in
-    let n = node_of k c.args.w.now.job.at MATCH c.requires.0.start c.requires.1 in
-    (next_arms k c.args.w.now.job.at c.end-from.result c.end-from.ensures n.1).1
+    let n = node_of c.args.program.now c.args.w.now.job.at MATCH c.requires.ready.start c.requires.head in
+    (next_arms c.args.program.now c.args.w.now.job.at c.end-from.result c.end-from.ensures n.1).1
 
-pub returns-in_default-arm_for : goal.returns-in_default-arm_for
-returns-in_default-arm_for g c =
+pub returns-in_err-arm : goal.returns-in_err-arm
+returns-in_err-arm g c most =
     let k = c.args.program.now in
-    let w = c.args.w.now in
-    let value = c.in-Some-enum_at.value in
-    let n = node_of k w.job.at MATCH c.requires.0.start c.requires.1 in
-    let q = (next_arms k w.job.at c.end-from.result c.end-from.ensures n.1).0 in
-    match_no_arm k w (g.S.Store.cells c.args.store.now) _ _ n.2 c.in-Some.v (enum_of value) c.in-Some.ensures c.in-Some-enum_at.ensures c.args.entries.now
-    (subst (λ m. OfArm (text_in k) (tokens_in k) (arm_of (arms_at (text_in k) (tokens_in k) m) value.case) None) q c.in_default-arm_for.ensures)
+    let value = c.in_ok-value.value in
+    let n = node_of c.args.program.now c.args.w.now.job.at MATCH c.requires.ready.start c.requires.head in
+    let q = (next_arms k c.args.w.now.job.at c.end-from.result c.end-from.ensures n.1).0 in
+    let a = rw q at c.in_err-arm.ensures in
+    stuck_did k c.args.w.now most c.args.entries.now (g.S.Store.cells c.args.store.now) _ c.from_residual-in_err-arm.ensures
+    (match_none k c.args.w.now (g.S.Store.cells c.args.store.now) _ _ n.2 c.in_ok-v.v (enum_of value) c.in_ok-v.ensures c.in_ok-value.ensures c.args.entries.now a most)
 
 pub returns-then-fields-arm : goal.returns-then-fields-arm
-returns-then-fields-arm g c =
+returns-then-fields-arm g c most =
     let k = c.args.program.now in
-    let w = c.args.w.now in
-    let value = c.in-Some-enum_at.value in
-    let n = node_of k w.job.at MATCH c.requires.0.start c.requires.1 in
-    let q = (next_arms k w.job.at c.end-from.result c.end-from.ensures n.1).0 in
-    match_not k w (g.S.Store.cells c.args.store.now) _ _ n.2 c.in-Some.v (enum_of value) c.in-Some.ensures c.in-Some-enum_at.ensures c.args.entries.now c.in-Some-arm_for.arm
-    (subst (λ m. OfArm (text_in k) (tokens_in k) (arm_of (arms_at (text_in k) (tokens_in k) m) value.case) (Some c.in-Some-arm_for.arm)) q c.in-Some-arm_for.ensures)
-    (λ e. c.if-fields-arm.true (ap length c.as_slice-fields.ensures ∙ e))
+    let value = c.in_ok-value.value in
+    let n = node_of c.args.program.now c.args.w.now.job.at MATCH c.requires.ready.start c.requires.head in
+    let q = (next_arms k c.args.w.now.job.at c.end-from.result c.end-from.ensures n.1).0 in
+    let a = rw q at c.in_ok-arm.ensures in
+    stuck_did k c.args.w.now most c.args.entries.now (g.S.Store.cells c.args.store.now) _ refl
+    (match_not k c.args.w.now (g.S.Store.cells c.args.store.now) _ _ n.2 c.in_ok-v.v (enum_of value) c.in_ok-v.ensures c.in_ok-value.ensures c.args.entries.now (c.in_ok-arm.arm, c.in_ok-arm.part) a
+    (λ e. c.if-fields-arm.true (ap length c.as_slice-fields.ensures ∙ e)) most)
 
 pub returns : goal.returns
-returns g c =
+returns g c most =
     let k = c.args.program.now in
     let w = c.args.w.now in
-    let value = c.in-Some-enum_at.value in
-    let n = node_of k w.job.at MATCH c.requires.0.start c.requires.1 in
+    let value = c.in_ok-value.value in
+    let n = node_of c.args.program.now c.args.w.now.job.at MATCH c.requires.ready.start c.requires.head in
     let q = (next_arms k w.job.at c.end-from.result c.end-from.ensures n.1).0 in
+    let a = rw q at c.in_ok-arm.ensures in
     let l = ap length c.as_slice-fields.ensures in
     let few = values_few value.fields in
-    let height : w.job.height + length c.as_slice-fields.result.now ≡ w.job.height + length (values_of value.fields) = omega arith in
     let b = rw c.as_slice-fields.ensures at c.bind_above.ensures.scope in
-    match_did k w (g.S.Store.cells c.args.store.now) _ _ n.2 c.in-Some.v (enum_of value) c.in-Some.ensures c.in-Some-enum_at.ensures c.args.entries.now c.bind_above.new.entries
-    c.in-Some-arm_for.arm (w.job.height + length c.as_slice-fields.result.now)
-    (subst (λ m. OfArm (text_in k) (tokens_in k) (arm_of (arms_at (text_in k) (tokens_in k) m) value.case) (Some c.in-Some-arm_for.arm)) q c.in-Some-arm_for.ensures)
-    (sym l ∙ c.if-fields-arm.false) c.requires.0.based height (omega arith) c.bind_above.ensures.agree b
+    match_did k w (g.S.Store.cells c.args.store.now) _ _ n.2 c.in_ok-v.v (enum_of value) c.in_ok-v.ensures c.in_ok-value.ensures c.args.entries.now c.bind_above.new.entries
+    (c.in_ok-arm.arm, c.in_ok-arm.part) (w.job.height + length c.as_slice-fields.result.now) a
+    (sym l ∙ c.if-fields-arm.false) c.requires.ready.based (ap (λ m. w.job.height + m) l) (omega arith) c.bind_above.ensures.agree b most

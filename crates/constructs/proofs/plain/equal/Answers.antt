@@ -1,16 +1,15 @@
 -- Any two values.
-use Rattle.std.proofs.Common.{refl}
 use Rattle.table.specs.declared.token.Head.TheVariants.{Pair as PAIR}
 use Rattle.table.specs.declared.token.Pair.TheVariants.{Eq as EQ}
-use Rattle.constructs.proofs.Moves.{node_of}
+use Rattle.constructs.proofs.Moves.{node_of, still, stuck_did}
 use Rattle.constructs.proofs.plain.equal.Goals as goal
 
-pub returns-in_default : goal.returns-in_default
-returns-in_default c most es cs =
-    let n = node_of c.args.program.now c.args.w.now.job.at (PAIR EQ) c.requires.0.start c.requires.1 in
-    record { does = rw (n.1, ← c.in_default.ensures); kept = refl; agree = refl; leads = tt }
+pub returns-in_err-one : goal.returns-in_err-one
+returns-in_err-one c most es cs =
+    let n = node_of c.args.program.now c.args.w.now.job.at (PAIR EQ) c.requires.ready.start c.requires.head in
+    stuck_did c.args.program.now c.args.w.now most es cs _ c.from_residual.ensures (rw (n.1, ← c.in_err-one.ensures))
 
 pub returns : goal.returns
 returns c most es cs =
-    let n = node_of c.args.program.now c.args.w.now.job.at (PAIR EQ) c.requires.0.start c.requires.1 in
-    record { does = rw (n.1, ← c.in-Some.ensures); kept = refl; agree = refl; leads = tt }
+    let n = node_of c.args.program.now c.args.w.now.job.at (PAIR EQ) c.requires.ready.start c.requires.head in
+    still c.args.program.now c.args.w.now most es cs _ (rw (n.1, ← c.in_ok-one.ensures)) tt

@@ -1,56 +1,44 @@
-use Rattle.std.proofs.Common.{refl}
+use Rattle.std.proofs.Common.{sym, ◌∙◌}
+use Rattle.battery.specs.Cell.{text_cell}
 use Rattle.table.specs.declared.token.Head.TheVariants.{Pair as PAIR}
 use Rattle.table.specs.declared.token.Pair.TheVariants.{Concat as CONCAT}
-use Rattle.battery.specs.Cell.{text_cell}
+use Rattle.machine.specs.Machine.{of_cell, of_text}
 use Rattle.cells.specs.Meaning.{text_of}
-use Rattle.constructs.proofs.Moves.{node_of}
-use Rattle.constructs.proofs.Celled.{put_did, stuck_did, concat_no_first, concat_no_second, concat_long, concat_puts}
+use Rattle.constructs.proofs.Moves.{node_of, still, stuck_did, bound, unbound}
+use Rattle.constructs.proofs.Celled.{put_did, concat_long, concat_puts}
 use Rattle.constructs.proofs.text.concat.Goals as goal
 
-pub returns-in_default : goal.returns-in_default
-returns-in_default g c =
-    let n = node_of c.args.program.now c.args.w.now.job.at (PAIR CONCAT) c.requires.0.start c.requires.1 in
-    record { most = refl {a = g.S.Store.limit c.args.store.now}; does = λ es. stuck_did c.args.program.now c.args.w.now (g.S.Store.limit c.args.store.now) es (g.S.Store.cells c.args.store.now) (rw (n.1, ← c.in_default.ensures)) }
+pub returns-in_err-a-clause-does : goal.returns-in_err-a-clause-does
+returns-in_err-a-clause-does g c es =
+    let n = node_of c.args.program.now c.args.w.now.job.at (PAIR CONCAT) c.requires.ready.start c.requires.head in
+    stuck_did c.args.program.now c.args.w.now _ es _ _ c.from_residual.ensures (rw (n.1, ← c.in_err-a.ensures))
 
-pub returns-in_default-text_at : goal.returns-in_default-text_at
-returns-in_default-text_at g c =
-    let k = c.args.program.now in
-    let n = node_of k c.args.w.now.job.at (PAIR CONCAT) c.requires.0.start c.requires.1 in
-    record {
-      most = refl {a = g.S.Store.limit c.args.store.now};
-      does = concat_no_first k c.args.w.now _ (g.S.Store.cells c.args.store.now) _ _ c.in-Some.a c.in-Some.b n.1 c.in-Some.ensures c.in_default-text_at.ensures;
-    }
-
-pub returns-in_default-text_at-2 : goal.returns-in_default-text_at-2
-returns-in_default-text_at-2 g c =
-    let k = c.args.program.now in
-    let n = node_of k c.args.w.now.job.at (PAIR CONCAT) c.requires.0.start c.requires.1 in
-    record {
-      most = refl {a = g.S.Store.limit c.args.store.now};
-      does = concat_no_second k c.args.w.now _ (g.S.Store.cells c.args.store.now) _ _ c.in-Some.a c.in-Some.b (text_of c.in-Some-text_at.s)
-          n.1 c.in-Some.ensures c.in-Some-text_at.ensures c.in_default-text_at-2.ensures;
-    }
-
-pub returns-in_default-joined : goal.returns-in_default-joined
-returns-in_default-joined g c =
-    let k = c.args.program.now in
-    let n = node_of k c.args.w.now.job.at (PAIR CONCAT) c.requires.0.start c.requires.1 in
-    record {
-      most = refl {a = g.S.Store.limit c.args.store.now};
-      does = concat_long k c.args.w.now _ (g.S.Store.cells c.args.store.now) _ _ c.in-Some.a c.in-Some.b (text_of c.in-Some-text_at.s) (text_of c.in-Some-text_at-2.t)
-          n.1 c.in-Some.ensures c.in-Some-text_at.ensures c.in-Some-text_at-2.ensures c.in_default-joined.ensures;
-    }
-
-pub returns : goal.returns
-returns g c =
-    let k = c.args.program.now in
-    let w = c.args.w.now in
-    let n = node_of k w.job.at (PAIR CONCAT) c.requires.0.start c.requires.1 in
-    let u = text_of c.in-Some-joined.text in
+pub returns-in_err-one-clause-does : goal.returns-in_err-one-clause-does
+returns-in_err-one-clause-does g c es =
+    let n = node_of c.args.program.now c.args.w.now.job.at (PAIR CONCAT) c.requires.ready.start c.requires.head in
     let cs = g.S.Store.cells c.args.store.now in
-    let a = concat_puts k w (g.S.Store.limit c.args.store.now) cs _ _ c.in-Some.a c.in-Some.b (text_of c.in-Some-text_at.s) (text_of c.in-Some-text_at-2.t)
-    n.1 c.in-Some.ensures c.in-Some-text_at.ensures c.in-Some-text_at-2.ensures u c.in-Some-joined.ensures in
-    record {
-      most = c.placed.ensures.most;
-      does = put_did k w (g.S.Store.limit c.args.store.now) w.job.at (text_cell u) cs (g.S.Store.cells c.placed.new.store) c.placed.result a c.placed.ensures.does c.placed.ensures.kept;
-    }
+    stuck_did c.args.program.now c.args.w.now _ es cs _ c.from_residual-in_err-one.ensures (rw (n.1, ← c.in_ok-a.ensures) (unbound (of_cell cs c.in_ok-a.a) of_text _ c.in_err-one.ensures))
+
+pub returns-in_err-other-clause-does : goal.returns-in_err-other-clause-does
+returns-in_err-other-clause-does g c es =
+    let n = node_of c.args.program.now c.args.w.now.job.at (PAIR CONCAT) c.requires.ready.start c.requires.head in
+    let cs = g.S.Store.cells c.args.store.now in
+    stuck_did c.args.program.now c.args.w.now _ es cs _ c.from_residual-in_err-other.ensures
+    (rw (n.1, ← c.in_ok-a.ensures) (bound (of_cell cs c.in_ok-a.a) of_text (text_of c.in_ok-one.one) _ c.in_ok-one.ensures ∙ unbound (of_cell cs c.in_ok-a.b) of_text _ c.in_err-other.ensures))
+
+pub returns-in_default-clause-does : goal.returns-in_default-clause-does
+returns-in_default-clause-does g c es =
+    let n = node_of c.args.program.now c.args.w.now.job.at (PAIR CONCAT) c.requires.ready.start c.requires.head in
+    let cs = g.S.Store.cells c.args.store.now in
+    let e = concat_long c.args.program.now c.args.w.now (g.S.Store.limit c.args.store.now) es cs n.1 c.in_ok-a.a c.in_ok-a.b (text_of c.in_ok-one.one) (text_of c.in_ok-other.other)
+    c.in_ok-a.ensures c.in_ok-one.ensures c.in_ok-other.ensures c.in_default.ensures in
+    still c.args.program.now c.args.w.now (g.S.Store.limit c.args.store.now) es cs _ (sym e) tt
+
+pub returns-clause-does : goal.returns-clause-does
+returns-clause-does g c es =
+    let n = node_of c.args.program.now c.args.w.now.job.at (PAIR CONCAT) c.requires.ready.start c.requires.head in
+    let cs = g.S.Store.cells c.args.store.now in
+    let u = text_of c.in-Some.text in
+    let e = concat_puts c.args.program.now c.args.w.now (g.S.Store.limit c.args.store.now) es cs n.1 c.in_ok-a.a c.in_ok-a.b (text_of c.in_ok-one.one) (text_of c.in_ok-other.other)
+    c.in_ok-a.ensures c.in_ok-one.ensures c.in_ok-other.ensures u c.in-Some.ensures in
+    put_did c.args.program.now c.args.w.now (g.S.Store.limit c.args.store.now) c.args.w.now.job.at (text_cell u) cs (g.S.Store.cells c.placed.new.store) c.placed.result es e c.placed.ensures.does c.placed.ensures.kept

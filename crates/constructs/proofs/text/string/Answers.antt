@@ -1,21 +1,20 @@
+use Rattle.std.proofs.Common.{Some, None}
 use Rattle.battery.specs.Cell.{text_cell}
+use Rattle.table.specs.declared.token.Head.TheVariants.{Leaf as LEAF}
+use Rattle.table.specs.declared.token.Leaf.TheVariants.{Text as STR}
 use Rattle.cells.specs.Meaning.{text_of}
-use Rattle.constructs.proofs.Celled.{put_did, string_puts, string_never}
+use Rattle.constructs.proofs.Moves.{node_of}
+use Rattle.constructs.proofs.Celled.{put_did, text_there}
 use Rattle.constructs.proofs.text.string.Goals as goal
 
-pub returns-in_default : goal.returns-in_default
-returns-in_default g c =
-    absurd (string_never c.args.program.now c.args.w.now.job.at c.args.place c.args.bytes c.requires.0.start c.requires.1 c.in_default.ensures)
+pub returns-in_err-text-clause-does : goal.returns-in_err-text-clause-does
+returns-in_err-text-clause-does g c =
+    let t = text_there c.args.program.now c.args.w.now.job.at c.args.place c.args.bytes None c.requires.ready.start c.requires.head c.in_err-text.ensures in absurd (cc)
 
-pub returns : goal.returns
-returns g c =
-    let k = c.args.program.now in
-    let w = c.args.w.now in
-    let most = g.S.Store.limit c.args.store.now in
-    let cs = g.S.Store.cells c.args.store.now in
-    let u = text_of c.in-Some.text in
-    let a = string_puts k w most c.args.place c.args.bytes cs u c.requires.0.start c.requires.1 c.in-Some.ensures in
-    record {
-      most = c.placed.ensures.most;
-      does = put_did k w most w.job.at (text_cell u) cs (g.S.Store.cells c.placed.new.store) c.placed.result a c.placed.ensures.does c.placed.ensures.kept;
-    }
+pub returns-clause-does : goal.returns-clause-does
+returns-clause-does g c es =
+    let n = node_of c.args.program.now c.args.w.now.job.at (LEAF (STR c.args.place c.args.bytes)) c.requires.ready.start c.requires.head in
+    let u = text_of c.in_ok-text.text in
+    let t = text_there c.args.program.now c.args.w.now.job.at c.args.place c.args.bytes (Some u) c.requires.ready.start c.requires.head c.in_ok-text.ensures in
+    put_did c.args.program.now c.args.w.now (g.S.Store.limit c.args.store.now) c.args.w.now.job.at (text_cell u) (g.S.Store.cells c.args.store.now) (g.S.Store.cells c.placed.new.store) c.placed.result es (rw n (cc))
+    c.placed.ensures.does c.placed.ensures.kept
