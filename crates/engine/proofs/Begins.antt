@@ -11,6 +11,7 @@ use Rattle.program.specs.Views.{tokens_in, text_in, card_in}
 use Rattle.program.specs.declared.program.Program.{Program}
 use Rattle.program.specs.declared.function.Function.{Function}
 use Rattle.frames.specs.declared.data.Frame.{Frame}
+use Rattle.frames.specs.declared.data.Judgement.TheVariants.{Of}
 use Rattle.frames.specs.declared.data.Stage.TheVariants.{Going}
 use Rattle.frames.specs.Trees.{setup}
 use Rattle.frames.specs.Views.{stage, StageOk}
@@ -23,8 +24,8 @@ module _ (k : Program) (f : ℕ) (b : Function) (vs : List Value) (es es₀ : Li
   pub record Began : Type 0 where
     pub fn : Fn
     pub takes : Takes k f vs fn
-    pub view : stage k es l 0 cs (Going (record { at = b.body; base = 0; height = n })) ≡ start (setup k most) fn vs cs
-    pub sound : StageOk k l 0 (Going (record { at = b.body; base = 0; height = n }))
+    pub view : stage k es l 0 cs (Going (Of (record { at = b.body; base = 0; height = n }))) ≡ start (setup k most) fn vs cs
+    pub sound : StageOk k l 0 (Going (Of (record { at = b.body; base = 0; height = n })))
 
   begun_by : (o : Option Fn) → at (card_in k).fns f ≡ o → OfFunction (text_in k) (tokens_in k) o (Some b) → n ≡ length vs → length vs ≡ b.parameters → length vs ≤ 4 → l ≡ []
       → scope_of (take (0 + length vs) es) ≡ bind 0 vs (scope_of (take 0 es₀)) → Began
@@ -37,7 +38,7 @@ module _ (k : Program) (f : ℕ) (b : Function) (vs : List Value) (es es₀ : Li
         fn = fn;
         takes = record { there = e; counted = h ∙ o.0 };
         view = rw (q, w, is);
-        sound = rw q (record { start = o.1; based = omega arith; low = omega arith }, tt, omega arith);
+        sound = rw q ((record { start = o.1; based = omega arith; low = omega arith }, tt), omega arith);
       }
 
   pub begun : OfFunction (text_in k) (tokens_in k) (at (card_in k).fns f) (Some b) → n ≡ length vs → length vs ≡ b.parameters → length vs ≤ 4 → l ≡ []

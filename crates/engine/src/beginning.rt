@@ -1,12 +1,13 @@
-ghost use Rattle.std.specs.Prelude.{◌≡◌, ◌≤◌};
+ghost use Rattle.std.specs.Prelude.{◌≡◌};
+ghost use Rattle.std.specs.Prelude.{Ok as value};
 ghost use Rattle.battery.specs.declared.value.Value.TheVariants.{Unit as unit_v};
-ghost use Rattle.frames.specs.declared.data.Stage.TheVariants.{Gave};
+ghost use Rattle.frames.specs.declared.data.Stage.TheVariants.{Ended};
 ghost use Rattle.cells.specs.Meaning.{values_of};
 ghost use Rattle.engine.specs.Begun.{Begun};
 
 use battery::Value;
 use cells::Values;
-use frames::{Frame, Job, Run, Stack, Stage};
+use frames::{Frame, Job, Judgement, Run, Stack, Stage};
 use program::Program;
 use scope::{Entry, bind_all};
 use stores::Store;
@@ -14,7 +15,7 @@ use stores::Store;
 // A run that has not begun, over a store.
 pub fn idle<S: Store>(store: S) -> Run<S>
     ensures over { result.store ≡ store }
-    ensures ended { result.stage ≡ Gave unit_v }
+    ensures ended { result.stage ≡ Ended (value unit_v) }
     ensures unspent { result.units ≡ 0 }
     ensures closed { result.stack.count ≡ 0 }
 {
@@ -27,7 +28,7 @@ pub fn idle<S: Store>(store: S) -> Run<S>
             name: 0,
             value: Value::Unit,
         }; 1028],
-        stage: Stage::Gave(Value::Unit),
+        stage: Stage::Ended(Ok(Value::Unit)),
         units: 0,
         store,
     }
@@ -59,10 +60,10 @@ pub fn begin<S: Store>(
     let _ = bind_all(&mut run.entries, 0, 0, args.as_slice());
     run.stack.clear();
     run.units = 0;
-    run.stage = Stage::Going(Job {
+    run.stage = Stage::Going(Judgement::Of(Job {
         at: function.body,
         base: 0,
         height: args.len() as u16,
-    });
+    }));
     Ok(())
 }

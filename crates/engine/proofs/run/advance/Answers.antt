@@ -2,7 +2,7 @@ use Rattle.std.proofs.Common.{◌≡◌, ◌+◌, ◌-◌, sym, refl, ◌∙◌,
 use Rattle.frames.specs.Trees.{setup}
 use Rattle.frames.specs.Stacks.{held}
 use Rattle.frames.specs.Views.{view}
-use Rattle.engine.proofs.Carries.{rests, turned}
+use Rattle.engine.proofs.Openings.{rests, turned}
 use Rattle.engine.proofs.run.advance.Goals as goal
 
 pub returns-then-not-step_once-clause-does : goal.returns-then-not-step_once-clause-does
@@ -12,7 +12,7 @@ returns-then-not-step_once-clause-does g c =
     let S = setup k (g.S.Store.limit c.args.run.now.store) in
     let e = rw c.loop.invariant.most at c.step_once.ensures.does in
     let a = c.if-not-step_once.ensures.rest refl in
-    sym (rests k r.entries (held r.stack) r.units (g.S.Store.limit c.args.run.now.store) (g.S.Store.cells r.store) r.stage a.0 a.1 (c.args.units - (c.loop.counter + 1)))
+    sym (rests k r.entries (held r.stack) r.units (g.S.Store.limit c.args.run.now.store) (g.S.Store.cells r.store) r.stage a (c.args.units - (c.loop.counter + 1)))
     ∙ turned S c.loop.counter c.args.units (view g.S.Store.cells k c.loop.run) _ c.loop-test.true e ∙ c.loop.invariant.does
 
 pub loop-preserved : goal.loop-preserved

@@ -11,5 +11,5 @@ invariant-loop g l =
     record {
       sound : Sound l.program l.run;
       most : g.S.Store.limit l.run.store ≡ g.S.Store.limit l.initial.run.store;
-      does : turn S (l.units - l.counter) (view g.S.Store.cells l.program l.run) ≡ turn S l.units (view g.S.Store.cells l.program l.initial.run)
+      does : turn S (l.units - l.counter) (view g.S.Store.cells l.program l.run) ≡ turn S l.units (view g.S.Store.cells l.program l.initial.run);
     }
