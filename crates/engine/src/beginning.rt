@@ -53,17 +53,18 @@ pub fn begin<S: Store>(
     ensures { Begun S.Store.cells (S.Store.limit run.old.store) program.now run.old run.new f (values_of args.now) result }
 {
     let function = program.function(f).ok_or(NotBegun::NoFunction)?;
-    if args.len() != function.parameters as usize {
+    let values = args.as_slice();
+    if values.len() != function.parameters as usize {
         return Err(NotBegun::OtherCount);
     }
     // There is room for more entries than a function has parameters.
-    let _ = bind_all(&mut run.entries, 0, 0, args.as_slice());
+    let _ = bind_all(&mut run.entries, 0, 0, values);
     run.stack.clear();
     run.units = 0;
     run.stage = Stage::Going(Judgement::Of(Job {
         at: function.body,
         base: 0,
-        height: args.len() as u16,
+        height: values.len() as u16,
     }));
     Ok(())
 }
