@@ -2,8 +2,10 @@ ghost use Rattle.std.specs.Prelude.{◌≡◌};
 ghost use Rattle.card.specs.Told.{number_of, record_of, group_of, layer_of};
 ghost use Rattle.rules.specs.Typed.{type_number};
 ghost use Rattle.card.specs.declared.fault.Fault.TheVariants.{Image as of_image, Table as of_table, Types as of_types};
+ghost use Rattle.card.specs.declared.fault.TableFault.TheVariants.{Misplaced as of_misplaced};
 ghost use Rattle.verdict.specs.Verdict.{image_number};
 
+use grammar::Misplaced;
 use image::ImageFault;
 use rules::{Broken, TypeFault};
 
@@ -37,6 +39,17 @@ pub enum Layer {
     Image,
     Table,
     Types,
+}
+
+impl From<Misplaced> for TableFault {
+    ghost from_gives = { λ m r. r ≡ of_misplaced m.«record» m.group };
+
+    fn from(m: Misplaced) -> TableFault {
+        TableFault::Misplaced {
+            record: m.record,
+            group: m.group,
+        }
+    }
 }
 
 impl From<ImageFault> for Fault {

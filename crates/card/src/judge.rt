@@ -23,31 +23,19 @@ fn known(image: &[u8], room: &mut [Token]) -> Result<(), TableFault>
     ensures answer { result ≡ known_by (tokens_from image.now 9 0 (length room.old)) }
     ensures tokens { OnOk result (tokens_from image.now 9 0 (length room.old) ≡ Ok room.new) }
 {
-    match tokens_of(Reader::new(image, 9), room) {
-        Ok(()) => Ok(()),
-        Err(record) => Err(TableFault::Unknown { record }),
-    }
+    tokens_of(Reader::new(image, 9), room).map_err(|record| TableFault::Unknown { record })
 }
 
 fn in_place(tokens: &[Token]) -> Result<(), TableFault>
     ensures { result ≡ placed_by (misplaced 0 [] tokens.now) }
 {
-    match placed(tokens) {
-        Ok(()) => Ok(()),
-        Err(m) => Err(TableFault::Misplaced {
-            record: m.record,
-            group: m.group,
-        }),
-    }
+    Ok(placed(tokens)?)
 }
 
 fn in_order(layout: &Layout<'_>, texts: usize) -> Result<(), TableFault>
     ensures { OnCard (tokens_in layout.now) (λ C. result ≡ numbered_by (misnumbered C texts 0 none_seen (tokens_in layout.now))) }
 {
-    match numbered(layout, texts) {
-        Ok(()) => Ok(()),
-        Err(record) => Err(TableFault::Misnumbered { record }),
-    }
+    numbered(layout, texts).map_err(|record| TableFault::Misnumbered { record })
 }
 
 fn counts(layout: &Layout<'_>) -> Counts
@@ -63,10 +51,8 @@ fn counts(layout: &Layout<'_>) -> Counts
 fn well_typed(layout: &Layout<'_>) -> Result<Counts, TypeFault>
     ensures { OnCard (tokens_in layout.now) (λ C. told (types_by result) ≡ by_types C (check_card C)) }
 {
-    match typed(layout) {
-        Ok(()) => Ok(counts(layout)),
-        Err(f) => Err(f),
-    }
+    typed(layout)?;
+    Ok(counts(layout))
 }
 
 // The layers behind the grammar, on the card that the tokens spell.

@@ -207,6 +207,13 @@ fn both_branches_are_typed(rt: HostRuntime) -> Result<(), Fail> {
     Ok(())
 }
 
+// An enum of one case, and a function that matches a value of it by one arm.
+fn matched_by(arm: [u8; 8]) -> [[u8; 8]; 11] {
+    [
+        ENUM, CASE, CLOSE, DEF, UNIT_TYPE, MATCH, MAKE, arm, UNIT, CLOSE, CLOSE,
+    ]
+}
+
 #[test]
 fn counts_and_arms(rt: HostRuntime) -> Result<(), Fail> {
     let heap = rt.alloc();
@@ -216,28 +223,9 @@ fn counts_and_arms(rt: HostRuntime) -> Result<(), Fail> {
         "no 12 2 -"
     );
     let arm_1 = [34, 0, 0, 0, 1, 0, 0, 0];
+    assert_eq!(rt; answer(heap, 11, &matched_by(ARM), 0)?.as_str(), "ok 1 1");
     assert_eq!(rt;
-        answer(
-            heap,
-            11,
-            &[
-                ENUM, CASE, CLOSE, DEF, UNIT_TYPE, MATCH, MAKE, ARM, UNIT, CLOSE, CLOSE,
-            ],
-            0,
-        )?
-        .as_str(),
-        "ok 1 1"
-    );
-    assert_eq!(rt;
-        answer(
-            heap,
-            11,
-            &[
-                ENUM, CASE, CLOSE, DEF, UNIT_TYPE, MATCH, MAKE, arm_1, UNIT, CLOSE, CLOSE,
-            ],
-            0,
-        )?
-        .as_str(),
+        answer(heap, 11, &matched_by(arm_1), 0)?.as_str(),
         "no 13 5 -"
     );
     Ok(())

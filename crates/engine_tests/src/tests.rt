@@ -5,9 +5,9 @@ use battery::{Outcome, Stop, Value};
 use card::worked_card;
 use cells::{Cell, EnumValue, Text, Values};
 use engine::{NotBegun, advance, begin, idle};
+use expect::check_eq;
 use frames::{Run, Stage};
 use program::Program;
-use std::fmt::Debug;
 use std::test::Fail;
 use stores::{Pair, Plain, Store};
 
@@ -47,14 +47,6 @@ fn turns<S: Store>(program: &Program, run: &mut Run<S>, count: u32, units: u16)
     for _ in 0..count {
         advance(program, run, units);
     }
-}
-
-// Fails a test from inside a helper.
-fn check_eq<T: PartialEq + Debug + Drop>(one: T, other: T) -> Result<(), Fail> {
-    if one == other {
-        return Ok(());
-    }
-    Err(Fail::new(format_args!("{one:?} is not {other:?}")))
 }
 
 // A function with its arguments, the text that the store holds before, and how the run ends.

@@ -9,56 +9,59 @@ use cells::{Cell, EnumValue, Text, Values};
 use std::{fmt, io, str};
 use stores::{Pair, Plain, Store};
 
-// What a call on a store answered.
+// What a call on a store answered, if anything.
 #[derive(Clone, Copy)]
-enum Answer {
-    Place(u16),
-    Held(Cell),
-    Refused,
-}
+struct Answer<T>(Option<T>);
 
-impl fmt::Display for Answer {
+impl<T: fmt::Display> fmt::Display for Answer<T> {
     fn fmt<W: fmt::Write>(&self, f: &mut fmt::Formatter<W>) -> fmt::Result {
-        match *self {
-            Answer::Place(place) => write!(f, "{place}"),
-            Answer::Held(cell) => show(cell, f),
-            Answer::Refused => write!(f, "refused"),
+        match &self.0 {
+            Some(answer) => write!(f, "{answer}"),
+            None => write!(f, "refused"),
         }
     }
 }
 
-fn show<W: fmt::Write>(cell: Cell, f: &mut fmt::Formatter<W>) -> fmt::Result {
-    match cell {
-        Cell::Text(text) => match str::from_utf8(text.bytes()) {
-            Ok(name) => write!(f, "text {name}"),
-            Err(_) => write!(f, "bytes"),
-        },
-        Cell::Enum(value) => {
-            let of = value.of;
-            let case = value.case;
-            write!(f, "enum {of} case {case}")?;
-            for field in value.fields.slice() {
-                show_field(*field, f)?;
+// A cell in words.
+#[derive(Clone, Copy)]
+struct InWords(Cell);
+
+impl fmt::Display for InWords {
+    fn fmt<W: fmt::Write>(&self, f: &mut fmt::Formatter<W>) -> fmt::Result {
+        match self.0 {
+            Cell::Text(text) => match str::from_utf8(text.as_slice()) {
+                Ok(name) => write!(f, "text {name}"),
+                Err(_) => write!(f, "bytes"),
+            },
+            Cell::Enum(EnumValue { of, case, fields }) => {
+                write!(f, "enum {of} case {case}")?;
+                for field in fields.as_slice() {
+                    let field = Field(*field);
+                    write!(f, " {field}")?;
+                }
+                Ok(())
             }
-            Ok(())
         }
     }
 }
 
-fn show_field<W: fmt::Write>(field: Value, f: &mut fmt::Formatter<W>) -> fmt::Result {
-    match field {
-        Value::Unit => write!(f, " unit"),
-        Value::Number(number) => write!(f, " {number}"),
-        Value::Boolean(boolean) => write!(f, " {boolean}"),
-        Value::Place(place) => write!(f, " @{place}"),
+// A value in a word.
+#[derive(Clone, Copy)]
+struct Field(Value);
+
+impl fmt::Display for Field {
+    fn fmt<W: fmt::Write>(&self, f: &mut fmt::Formatter<W>) -> fmt::Result {
+        match self.0 {
+            Value::Unit => write!(f, "unit"),
+            Value::Number(number) => write!(f, "{number}"),
+            Value::Boolean(boolean) => write!(f, "{boolean}"),
+            Value::Place(place) => write!(f, "@{place}"),
+        }
     }
 }
 
 fn text(bytes: &[u8]) -> Cell {
-    match Text::of(bytes) {
-        Some(text) => Cell::Text(text),
-        None => blank(),
-    }
+    Text::of(bytes).map_or_else(blank, Cell::Text)
 }
 
 // An enum value of no fields.
@@ -101,19 +104,13 @@ fn put_first(slots: &mut [Cell], cell: Cell)
 }
 
 fn put<S: Store>(rt: &impl Print, store: &mut S, cell: Cell) -> io::Result<()> {
-    let answer = match store.put(cell) {
-        Some(place) => Answer::Place(place),
-        None => Answer::Refused,
-    };
+    let answer = Answer(store.put(cell));
     let held = store.len();
     println!(rt; "put {answer}, then held {held}")
 }
 
 fn get<S: Store>(rt: &impl Print, store: &S, place: u16) -> io::Result<()> {
-    let answer = match store.get(place) {
-        Some(cell) => Answer::Held(cell),
-        None => Answer::Refused,
-    };
+    let answer = Answer(store.get(place).map(InWords));
     println!(rt; "get {place}: {answer}")
 }
 
@@ -144,7 +141,7 @@ fn main(rt: HostRuntime) -> io::Result<()> {
     let mut lent = [on(1), on(2)];
     put_first(&mut lent, text(b"Noss"));
     for cell in lent {
-        let left = Answer::Held(cell);
+        let left = InWords(cell);
         println!(rt; "left {left}")?;
     }
     Ok(())

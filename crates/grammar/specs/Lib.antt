@@ -1,2 +1,4 @@
 pub mod Grammar
 pub mod Found
+pub mod Picked
+pub mod Reading

@@ -1,6 +1,7 @@
-ghost use Rattle.std.specs.Prelude.{◌≡◌, ◌<◌, ◌≤◌, [], ◌∷◌, length, drop, IfOk, Some, None, MatchOption};
-ghost use Rattle.grammar.specs.Grammar.{want_type, want_expr, want_close, want_cases, want_arms, expecting, parts, misplaced};
-ghost use Rattle.grammar.specs.Found.{found_by, token_at, One, after_case, after_arm, onward, Part};
+ghost use Rattle.std.specs.Prelude.{◌≡◌, ℕ, ◌+◌, ◌^◌, ◌<◌, [], ◌∷◌, length, true, false, Some, IfOk};
+ghost use Rattle.grammar.specs.Grammar.{want_type, want_expr, want_close, want_cases, want_arms, as_type, as_close, as_expr, as_case, as_arm, expecting, parts, misplaced};
+ghost use Rattle.grammar.specs.Found.{found_by};
+ghost use Rattle.grammar.specs.Picked.{Picks, after_case, after_arm};
 
 use table::{Head, Token};
 
@@ -11,181 +12,189 @@ pub struct Misplaced {
     pub group: Option<usize>,
 }
 
-fn peek(tokens: &[Token], at: usize) -> Option<Token>
-    ensures within { MatchOption result (length tokens.now ≤ at) (λ _. at < length tokens.now) }
-    ensures is { result ≡ token_at tokens.now at }
-{
-    tokens.get(at).copied()
-}
-
 // The CLOSE of a definition.
-fn close(tokens: &[Token], at: usize, definition: usize) -> Result<(), Misplaced>
-    ensures { One tokens.now at (λ K. want_close definition ∷ K) (Some definition) (λ _ K. K) result }
+fn close(token: Token) -> Option<()>
+    ensures { Picks as_close (λ K _. K) token result }
 {
-    match peek(tokens, at) {
-        Some(Token::Close) => Ok(()),
-        _ => Err(Misplaced {
-            record: at,
-            group: Some(definition),
-        }),
-    }
+    token.is_close().then_some(())
 }
 
-// One type.
-fn ty(tokens: &[Token], at: usize, group: Option<usize>) -> Result<(), Misplaced>
-    ensures { One tokens.now at (λ K. want_type ∷ K) group (λ _ K. K) result }
+fn ty(token: Token) -> Option<()>
+    ensures { Picks as_type (λ K _. K) token result }
 {
-    match peek(tokens, at) {
-        Some(Token::Ty(_)) => Ok(()),
-        _ => Err(Misplaced { record: at, group }),
-    }
+    token.ty().map(|_| ())
 }
 
 // What begins an expression.
-fn head(tokens: &[Token], at: usize, group: Option<usize>) -> Result<Head, Misplaced>
-    ensures { One tokens.now at (λ K. want_expr ∷ K) group (λ h K. parts at K h) result }
+fn head(token: Token) -> Option<Head>
+    ensures { (place : ℕ) → Picks (as_expr place) (parts place) token result }
 {
-    match peek(tokens, at) {
-        Some(Token::Expr(head)) => Ok(head),
-        _ => Err(Misplaced { record: at, group }),
+    token.head()
+}
+
+// The number of a CASE's fields.
+fn case(token: Token) -> Option<u8>
+    ensures { (enumeration : ℕ) → Picks (as_case enumeration false) (λ K n. after_case enumeration K (Some n)) token result }
+{
+    token.fields()
+}
+
+// The same, or none at the CLOSE behind the last case.
+fn case_or_close(token: Token) -> Option<Option<u8>>
+    ensures { (enumeration : ℕ) → Picks (as_case enumeration true) (after_case enumeration) token result }
+{
+    match token {
+        Token::Case { fields, .. } => Some(Some(fields)),
+        Token::Close => Some(None),
+        _ => None,
     }
 }
 
-// The number of a CASE's fields, or none at the CLOSE behind the last case.
-fn case(
-    tokens: &[Token],
+fn arm(token: Token) -> Option<()>
+    ensures { (matching : ℕ) → Picks (as_arm matching false) (λ K _. after_arm matching K true) token result }
+{
+    token.arm().map(|_| ())
+}
+
+// Whether an arm begins; else it is the CLOSE behind the last arm.
+fn arm_or_close(token: Token) -> Option<bool>
+    ensures { (matching : ℕ) → Picks (as_arm matching true) (after_arm matching) token result }
+{
+    match token {
+        Token::Arm { .. } => Some(true),
+        Token::Close => Some(false),
+        _ => None,
+    }
+}
+
+// The records still to be read, and the place of the first of them.
+#[derive(Drop)]
+struct Cursor<'a> {
+    rest: &'a [Token],
     at: usize,
-    enumeration: usize,
-    some: bool,
-) -> Result<Option<u8>, Misplaced>
-    ensures { One tokens.now at (λ K. want_cases enumeration some ∷ K) (Some enumeration) (after_case enumeration) result }
-{
-    match peek(tokens, at) {
-        Some(Token::Case { fields, .. }) => Ok(Some(fields)),
-        Some(Token::Close) if some => Ok(None),
-        _ => Err(Misplaced {
-            record: at,
-            group: Some(enumeration),
-        }),
-    }
+    ghost within: { at + length rest.now < 2 ^ 64 },
 }
 
-// Whether an arm begins here; else it is the CLOSE behind the last arm.
-fn arm(tokens: &[Token], at: usize, matching: usize, some: bool) -> Result<bool, Misplaced>
-    ensures { One tokens.now at (λ K. want_arms matching some ∷ K) (Some matching) (after_arm matching) result }
-{
-    match peek(tokens, at) {
-        Some(Token::Arm { .. }) => Ok(true),
-        Some(Token::Close) if some => Ok(false),
-        _ => Err(Misplaced {
-            record: at,
-            group: Some(matching),
-        }),
-    }
-}
+#[tactic(auto, using(crate::proofs::Wanted::wanted))]
+impl Cursor<'_> {
+    ghost use Rattle.grammar.specs.Reading.{Takes, found_from, found_after, Reads};
 
-// The place behind n types.
-fn types(tokens: &[Token], at: usize, n: usize, group: Option<usize>) -> Result<usize, Misplaced>
-    requires { at ≤ length tokens.now }
-    ensures ends { IfOk result (λ m. (at ≤ m) × (m ≤ length tokens.now)) }
-    ensures is { Part tokens.now at (expecting n want_type) group result }
-{
-    if n == 0 {
-        return Ok(at);
+    // What is picked of the next record; where nothing is, the record is misplaced and stays.
+    fn take<T, F: FnOnce(Token) -> Option<T>>(
+        &mut self,
+        group: Option<usize>,
+        pick: F,
+    ) -> Result<T, Misplaced>
+        requires { F.IsAlwaysCallable pick }
+        ensures { Takes self.old group (F.post pick) result self.new }
+    {
+        let record = self.at;
+        let picked = self
+            .rest
+            .first()
+            .copied()
+            .and_then(pick)
+            .ok_or(Misplaced { record, group })?;
+        self.rest = &self.rest[1..];
+        self.at += 1;
+        Ok(picked)
     }
-    ty(tokens, at, group)?;
-    types(tokens, at + 1, n - 1, group)
-}
 
-// The place behind an enum's cases, one or more, and their CLOSE.
-fn cases(tokens: &[Token], at: usize, enumeration: usize, some: bool) -> Result<usize, Misplaced>
-    requires { at ≤ length tokens.now }
-    ensures ends { IfOk result (λ m. (at < m) × (m ≤ length tokens.now)) }
-    ensures is { Part tokens.now at (λ K. want_cases enumeration some ∷ K) (Some enumeration) result }
-{
-    match case(tokens, at, enumeration, some)? {
-        None => Ok(at + 1),
-        Some(fields) => {
-            let next = types(tokens, at + 1, fields as usize, Some(enumeration))?;
-            cases(tokens, next, enumeration, true)
+    fn types(&mut self, n: usize, group: Option<usize>) -> Result<(), Misplaced>
+        ensures { Reads self.old (expecting n want_type) group result self.new }
+    {
+        for _ in 0..n {
+            self.take(group, ty)?;
+        }
+        Ok(())
+    }
+
+    // An enum's cases, one or more, and their CLOSE.
+    fn cases(&mut self, enumeration: usize) -> Result<(), Misplaced>
+        ensures { Reads self.old (λ K. want_cases enumeration false ∷ K) (Some enumeration) result self.new }
+    {
+        let group = Some(enumeration);
+        let fields = self.take(group, case)?;
+        self.types(fields as usize, group)?;
+        while let Some(fields) = self.take(group, case_or_close)? {
+            self.types(fields as usize, group)?;
+        }
+        Ok(())
+    }
+
+    #[cycle(expressions_and_arms)]
+    fn expressions(&mut self, n: usize, group: Option<usize>) -> Result<(), Misplaced>
+        ensures { Reads self.old (expecting n want_expr) group result self.new }
+    {
+        for _ in 0..n {
+            self.expression(group)?;
+        }
+        Ok(())
+    }
+
+    // An expression and its parts.
+    #[cycle(expressions_and_arms)]
+    fn expression(&mut self, group: Option<usize>) -> Result<(), Misplaced>
+        ensures { Reads self.old (λ K. want_expr ∷ K) group result self.new }
+    {
+        let at = self.at;
+        match self.take(group, head)? {
+            Head::Leaf(_) => Ok(()),
+            Head::Pair(_) => self.expressions(2, group),
+            Head::If => self.expressions(3, group),
+            Head::Many(n, _) => self.expressions(n as usize, group),
+            Head::Match => {
+                self.expression(Some(at))?;
+                self.arms(at)
+            }
+            Head::Exit => {
+                self.take(group, ty)?;
+                self.expression(group)
+            }
         }
     }
-}
 
-// The place behind n expressions.
-#[cycle(expressions_and_arms)]
-fn expressions(
-    tokens: &[Token],
-    at: usize,
-    n: usize,
-    group: Option<usize>,
-) -> Result<usize, Misplaced>
-    requires { at ≤ length tokens.now }
-    ensures ends { IfOk result (λ m. (at ≤ m) × (m ≤ length tokens.now)) }
-    ensures is { Part tokens.now at (expecting n want_expr) group result }
-{
-    if n == 0 {
-        return Ok(at);
-    }
-    let next = expression(tokens, at, group)?;
-    expressions(tokens, next, n - 1, group)
-}
-
-// The place behind an expression and its parts.
-#[cycle(expressions_and_arms)]
-fn expression(tokens: &[Token], at: usize, group: Option<usize>) -> Result<usize, Misplaced>
-    requires { at ≤ length tokens.now }
-    ensures ends { IfOk result (λ m. (at < m) × (m ≤ length tokens.now)) }
-    ensures is { Part tokens.now at (λ K. want_expr ∷ K) group result }
-{
-    match head(tokens, at, group)? {
-        Head::Leaf(_) => Ok(at + 1),
-        Head::Pair(_) => expressions(tokens, at + 1, 2, group),
-        Head::If => expressions(tokens, at + 1, 3, group),
-        Head::Many(n, _) => expressions(tokens, at + 1, n as usize, group),
-        Head::Match => {
-            let first = expression(tokens, at + 1, Some(at))?;
-            arms(tokens, first, at, false)
+    // The arms of a MATCH, one or more, and their CLOSE.
+    #[cycle(expressions_and_arms)]
+    fn arms(&mut self, matching: usize) -> Result<(), Misplaced>
+        ensures { Reads self.old (λ K. want_arms matching false ∷ K) (Some matching) result self.new }
+    {
+        let group = Some(matching);
+        self.take(group, arm)?;
+        self.expression(group)?;
+        while self.take(group, arm_or_close)? {
+            self.expression(group)?;
         }
-        Head::Exit => {
-            let part = types(tokens, at + 1, 1, group)?;
-            expression(tokens, part, group)
-        }
+        Ok(())
     }
-}
 
-// The place behind the arms of a MATCH, one or more, and their CLOSE.
-#[cycle(expressions_and_arms)]
-fn arms(tokens: &[Token], at: usize, matching: usize, some: bool) -> Result<usize, Misplaced>
-    requires { at ≤ length tokens.now }
-    ensures ends { IfOk result (λ m. (at < m) × (m ≤ length tokens.now)) }
-    ensures is { Part tokens.now at (λ K. want_arms matching some ∷ K) (Some matching) result }
-{
-    if !arm(tokens, at, matching, some)? {
-        return Ok(at + 1);
+    // The types of a function's parameters and of its result, its body, and the CLOSE.
+    fn definition(&mut self, definition: usize, parameters: u8) -> Result<(), Misplaced>
+        ensures { Reads self.old (λ K. expecting parameters want_type (want_type ∷ want_expr ∷ want_close definition ∷ K)) (Some definition) result self.new }
+    {
+        let group = Some(definition);
+        self.types(parameters as usize, group)?;
+        self.take(group, ty)?;
+        self.expression(group)?;
+        self.take(group, close)?;
+        Ok(())
     }
-    let next = expression(tokens, at + 1, Some(matching))?;
-    arms(tokens, next, matching, true)
-}
 
-// The place behind an ENUM or a DEF, before which nothing is open.
-fn item(tokens: &[Token], at: usize) -> Result<usize, Misplaced>
-    requires { at < length tokens.now }
-    ensures ends { IfOk result (λ m. (at < m) × (m ≤ length tokens.now)) }
-    ensures is { misplaced at [] (drop at tokens.now) ≡ onward tokens.now [] result }
-{
-    match peek(tokens, at) {
-        Some(Token::Enum(_)) => cases(tokens, at + 1, at, false),
-        Some(Token::Def { parameters, .. }) => {
-            let body = types(tokens, at + 1, parameters as usize + 1, Some(at))?;
-            let end = expression(tokens, body, Some(at))?;
-            close(tokens, end, at)?;
-            Ok(end + 1)
+    // An ENUM or a DEF, before which nothing is open.
+    fn item(&mut self) -> Result<(), Misplaced>
+        requires { 0 < length self.old.rest.now }
+        ensures onward { IfOk result (λ _. self.old.at < self.new.at) }
+        ensures wanted { found_from self.old [] ≡ found_after result self.new [] }
+    {
+        let at = self.at;
+        match self.take(None, Some)? {
+            Token::Enum(_) => self.cases(at),
+            Token::Def { parameters, .. } => self.definition(at, parameters),
+            _ => Err(Misplaced {
+                record: at,
+                group: None,
+            }),
         }
-        _ => Err(Misplaced {
-            record: at,
-            group: None,
-        }),
     }
 }
 
@@ -193,9 +202,12 @@ fn item(tokens: &[Token], at: usize) -> Result<usize, Misplaced>
 pub fn placed(tokens: &[Token]) -> Result<(), Misplaced>
     ensures { found_by result ≡ misplaced 0 [] tokens.now }
 {
-    let mut at = 0;
-    while at < tokens.len() {
-        at = item(tokens, at)?;
+    let mut cursor = Cursor {
+        rest: tokens,
+        at: 0,
+    };
+    while !cursor.rest.is_empty() {
+        cursor.item()?;
     }
     Ok(())
 }

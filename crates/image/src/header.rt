@@ -1,6 +1,6 @@
 ghost use Rattle.std.specs.Prelude.{◌≡◌, ◌+◌, ◌*◌, ◌≤◌, length, IfOk, Some, None, MatchResult};
 ghost use Rattle.image.specs.Bytes.{count_of, text_of};
-ghost use Rattle.image.specs.Header.{header_fault, lettered as has_letters};
+ghost use Rattle.image.specs.Header.{header_fault};
 
 // Why the first nine bytes or the length turn an image down, in the order in which they are tested.
 #[derive(Clone, Copy)]
@@ -19,14 +19,6 @@ pub struct Header {
     pub texts: usize,
 }
 
-// An image begins with three letters.
-fn lettered(image: &[u8]) -> bool
-    requires { 3 ≤ length image.now }
-    ensures { result ≡ has_letters image.now }
-{
-    &image[0..3] == b"RUL".as_slice()
-}
-
 impl Header {
     // The first test that fails turns the image down.
     pub fn of(image: &[u8]) -> Result<Header, ImageFault>
@@ -34,15 +26,12 @@ impl Header {
         ensures counts { IfOk result (λ h. (h.records ≡ count_of image.now) × (h.texts ≡ text_of image.now)) }
         ensures whole { IfOk result (λ h. (length image.now ≡ 9 + 8 * h.records + h.texts) × (1 ≤ h.records) × (h.records ≤ 512) × (h.texts ≤ 2048)) }
     {
-        if image.len() < 9 {
-            return Err(ImageFault::Short);
-        }
-        if !lettered(image) {
-            return Err(ImageFault::Letters);
-        }
-        let [_, _, _, v0, v1, n0, n1, t0, t1, rest @ ..] = image else {
+        let [r, u, l, v0, v1, n0, n1, t0, t1, rest @ ..] = image else {
             return Err(ImageFault::Short);
         };
+        if [*r, *u, *l] != *b"RUL" {
+            return Err(ImageFault::Letters);
+        }
         if u16::from_le_bytes([*v0, *v1]) != 1 {
             return Err(ImageFault::Version);
         }

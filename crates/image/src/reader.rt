@@ -23,13 +23,9 @@ impl<'a> Reader<'a> {
         ensures image { self.new.image.now ≡ self.old.image.now }
         ensures place { MatchOption result (self.new.place ≡ self.old.place) (λ _. self.new.place ≡ self.old.place + n) }
     {
-        let len = self.image.len();
-        if self.place > len || n > len - self.place {
-            return None;
-        }
-        let from = self.place;
-        self.place = from + n;
-        Some(&self.image[from..from + n])
+        let part = self.image.get(self.place..)?.get(..n)?;
+        self.place += n;
+        Some(part)
     }
 
     // The next record, eight bytes taken apart; nothing where the image has fewer.
@@ -38,24 +34,13 @@ impl<'a> Reader<'a> {
         ensures image { self.new.image.now ≡ self.old.image.now }
         ensures place { MatchOption result (self.new.place ≡ self.old.place) (λ _. self.new.place ≡ self.old.place + 8) }
     {
-        match self.take(8) {
-            Some(part) => Record::of(part),
-            None => None,
-        }
+        Record::of(self.take(8)?)
     }
 
     // The text of n bytes that begins a number of bytes from the place.
     pub fn text(&self, from: usize, n: usize) -> Option<&'a [u8]>
         ensures { MatchOption result (length self.now.image.now < self.now.place + from + n) (λ p. (self.now.place + from + n ≤ length self.now.image.now) × (p.now ≡ part_of self.now.image.now (self.now.place + from) n)) }
     {
-        let len = self.image.len();
-        if self.place > len || from > len - self.place {
-            return None;
-        }
-        let mut at = Reader {
-            image: self.image,
-            place: self.place + from,
-        };
-        at.take(n)
+        self.image.get(self.place..)?.get(from..)?.get(..n)
     }
 }

@@ -7,7 +7,7 @@ use Rattle.table.specs.declared.token.Token.TheVariants.{Close as CLOSE, Enum as
 use Rattle.table.specs.declared.token.Head.{Head}
 use Rattle.numbering.proofs.Options.{never, Some≡}
 use Rattle.table.specs.declared.token.Arm.{Arm}
-use Rattle.table.specs.Sorts.{head_of, arm_in, type_of, field_count, parameter_count}
+use Rattle.table.specs.Sorts.{head_of, arm_in, type_of, field_count}
 
 pub arm_is : (o : Option Token) (a : Arm) → Some a ≡ arm_in o → o ≡ Some (ARM a.names a.first a.case)
 arm_is None a e = never (sym e)
@@ -21,16 +21,6 @@ arm_is (Some (EXPR h)) a e = never (sym e)
 
 pub arm_not : (o : Option Token) → None ≡ arm_in o → (n x c : ℕ) → o ≡ Some (ARM n x c) → ⊥
 arm_not o e n x c h = never (e ∙ ap arm_in h)
-
-pub head_is : (o : Option Token) (h : Head) → Some h ≡ head_of o → o ≡ Some (EXPR h)
-head_is None h e = never (sym e)
-head_is (Some CLOSE) h e = never (sym e)
-head_is (Some (ENUM k)) h e = never (sym e)
-head_is (Some (CASE n k)) h e = never (sym e)
-head_is (Some (DEF n k)) h e = never (sym e)
-head_is (Some (TYPE τ)) h e = never (sym e)
-head_is (Some (ARM n x c)) h e = never (sym e)
-head_is (Some (EXPR g)) h e = ap (λ (b : Head). Some (EXPR b)) (sym (Some≡ e))
 
 pub head_not : (o : Option Token) → None ≡ head_of o → (h : Head) → o ≡ Some (EXPR h) → ⊥
 head_not o e h q = never (e ∙ ap head_of q)
@@ -53,12 +43,6 @@ fields_is o n k m e q = Some≡ (e ∙ ap field_count q)
 
 pub fields_not : (o : Option Token) → None ≡ field_count o → (n k : ℕ) → o ≡ Some (CASE n k) → ⊥
 fields_not o e n k q = never (e ∙ ap field_count q)
-
-pub parameters_is : (o : Option Token) (n k m : ℕ) → Some m ≡ parameter_count o → o ≡ Some (DEF n k) → m ≡ n
-parameters_is o n k m e q = Some≡ (e ∙ ap parameter_count q)
-
-pub parameters_not : (o : Option Token) → None ≡ parameter_count o → (n k : ℕ) → o ≡ Some (DEF n k) → ⊥
-parameters_not o e n k q = never (e ∙ ap parameter_count q)
 
 -- what is read off a token at a place stands there
 pub stands : {A : Type 0} (ws : List Token) (p : ℕ) (f : Option Token → Option A) (a : A) → f None ≡ None → Some a ≡ f (at ws p) → p < length ws

@@ -1,7 +1,8 @@
+pub mod Compared
 pub mod Nodes
 pub mod Steps
-pub mod Compared
 pub mod Backs
 pub mod Walks
 pub mod Taken
 pub mod Declares
+pub mod Arming

@@ -1,6 +1,6 @@
 pub mod Rules
 pub mod Typed
 pub mod Standing
-pub mod Listed
+pub mod Arming
 pub mod Signatures
 pub mod Shapes

@@ -5,27 +5,20 @@ use Rattle.battery.specs.Tree.{Fn, at}
 use Rattle.table.specs.declared.token.Token.{Token}
 use Rattle.table.specs.declared.token.Token.TheVariants.{Def as DEF, Ty as TYPE}
 use Rattle.numbering.specs.Places.{types_in}
-use Rattle.rules.specs.declared.types.Types.{Types}
 use Rattle.rules.specs.declared.declared.Signature.{Signature}
-use Rattle.rules.specs.Listed.{types_of}
+use Rattle.few.specs.Listed.{listed}
 
 -- the same types, or neither is there
-abbrev pub SameTypes : Option Types → Option (List Ty) → Type 0
-SameTypes None None = Unit {0}
-SameTypes None (Some τs) = ⊥
-SameTypes (Some s) None = ⊥
-SameTypes (Some s) (Some τs) = types_of s ≡ τs
-
 abbrev pub SameSignature : Option Signature → Option Fn → Type 0
 SameSignature None None = Unit {0}
 SameSignature None (Some fn) = ⊥
 SameSignature (Some s) None = ⊥
-SameSignature (Some s) (Some fn) = (types_of s.parameters ≡ fn.params) × (s.result ≡ fn.result)
+SameSignature (Some s) (Some fn) = (listed s.parameters ≡ fn.params) × (s.result ≡ fn.result)
 
 -- these types and no others
 abbrev pub Declares : Option Signature → List Ty → Ty → Type 0
 Declares None τs τ = ⊥
-Declares (Some s) τs τ = (types_of s.parameters ≡ τs) × (s.result ≡ τ)
+Declares (Some s) τs τ = (listed s.parameters ≡ τs) × (s.result ≡ τ)
 
 -- what the DEF at a place declares, where four parameters are enough
 abbrev pub DeclaredAt : List Token → ℕ → Option Signature → Type 0

@@ -1,5 +1,5 @@
 -- What typing at a place answers, for every card that the tokens spell.
-use Rattle.std.specs.Prelude.{◌≡◌, ℕ, Bool, ◌&&◌, List, ◌∷◌, ◌++◌, drop, Some, Ok, Err, Option, Result}
+use Rattle.std.specs.Prelude.{◌≡◌, ℕ, Bool, ◌&&◌, List, ◌∷◌, drop, Some, Ok, Err, Option, Result}
 use Rattle.battery.specs.declared.Ty.{Ty}
 use Rattle.battery.specs.Tree.{Expr, Exprs, Arms, no_arm, arm, Scope, bind, Card, at, ◌▸◌}
 use Rattle.table.specs.declared.token.Token.{Token}
@@ -8,8 +8,6 @@ use Rattle.verdict.specs.Order.{Checked, has, fault, check, check_all, check_arm
 use Rattle.rules.specs.declared.fault.Broken.{Broken}
 use Rattle.rules.specs.declared.fault.Broken.TheVariants.{Unbound, Mistyped, Count, Arms as OfArms}
 use Rattle.rules.specs.declared.fault.TypeFault.{TypeFault}
-use Rattle.rules.specs.declared.types.Types.{Types}
-use Rattle.rules.specs.Listed.{types_of}
 
 abbrev pub type_number : Broken → ℕ
 type_number Unbound = 10
@@ -56,8 +54,3 @@ GaveArms t ws ps τ c (Err f) = c ≡ fault (type_number f.broken) f.record
 
 abbrev pub ArmsAt : List Token → Scope Ty → ℕ → Ty → ℕ → Result (Bool × ℕ) TypeFault → Type 0
 ArmsAt ws Γ k τ p r = (t : List ℕ) (C : Card) → card_of t ws ≡ Some C → (E : List (List Ty)) → at C.enums k ≡ Some E → (ms : Arms) (ps : List Piece) → arms_from t ws p ≡ Some (ms, ps) → GaveArms t ws ps τ (check_arms C Γ E ms) r
-
--- the same behind types that were read before
-abbrev pub PartsBehind : List Token → Scope Ty → ℕ → ℕ → List Ty → Result (Types × ℕ) TypeFault → Type 0
-PartsBehind ws Γ p n before (Ok x) = (τs : List Ty) × (types_of x.0 ≡ before ++ τs) × PartsAt ws Γ p n (Ok (τs, x.1))
-PartsBehind ws Γ p n before (Err f) = PartsAt ws Γ p n (Err f)

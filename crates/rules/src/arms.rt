@@ -1,74 +1,77 @@
-ghost use Rattle.std.specs.Prelude.{◌≡◌, ◌+◌, ◌-◌, ◌<◌, ◌≤◌, true, false, length};
-ghost use Rattle.battery.specs.Tree.{at};
-ghost use Rattle.numbering.specs.Views.{tokens_in};
-ghost use Rattle.verdict.specs.Order.{as_fields};
-ghost use Rattle.rules.specs.Standing.{NextAt, CountAt, NamedAt, OnceAt, OfEnum};
+ghost use Rattle.std.specs.Prelude.{◌≡◌, ◌<◌, length};
+ghost use Rattle.std.specs.List.{list_all, range_with_len};
+ghost use Rattle.std.specs.Iterator.{YieldsFirst, item_count};
+ghost use Rattle.numbering.specs.Views.{tokens_in, ends_in};
+ghost use Rattle.rules.specs.Arming.{next_place, arms_left, taken_once, names_fit, fields_in};
 ghost use Rattle.rules.specs.Typed.{FitAt};
 
 use crate::standing::{arm_at, fields_at};
 use numbering::Layout;
+use table::Arm;
+
+// The arms of a MATCH from one on, in order.
+#[derive(Clone, Copy)]
+struct ArmsFrom<'c, 't> {
+    card: &'c Layout<'t>,
+    place: usize,
+}
 
 // The place behind an arm's part: another ARM, or the CLOSE of them all.
-fn next_arm(card: &Layout<'_>, arm: usize) -> usize
+fn next_place(card: &Layout<'_>, arm: usize) -> usize
     requires { arm < length (tokens_in card.now) }
-    ensures onward { arm < result }
-    ensures is { NextAt (tokens_in card.now) arm result }
+    ensures { result ≡ next_place (tokens_in card.now) (ends_in card.now) arm }
 {
     card.end(arm + 1).max(arm + 1)
 }
 
-// How many arms from a place on take a case.
-fn arms_of(card: &Layout<'_>, arm: usize, case: usize) -> usize
-    ensures few { result ≤ length (tokens_in card.now) - arm }
-    ensures is { CountAt (tokens_in card.now) case arm result }
-{
-    match arm_at(card, arm) {
-        Some(here) => {
-            let others = arms_of(card, next_arm(card, arm), case);
-            if here.case as usize == case {
-                others + 1
-            } else {
-                others
-            }
-        }
-        None => 0,
+impl Iterator for ArmsFrom<'_, '_> {
+    type Item = Arm;
+
+    ghost next_gives = { YieldsFirst arms_left };
+
+    ghost remaining = { item_count arms_left };
+
+    fn next(&mut self) -> Option<Arm> {
+        let arm = arm_at(self.card, self.place)?;
+        self.place = next_place(self.card, self.place);
+        Some(arm)
     }
 }
 
-// One arm for each of the cases below a number.
-fn all_once(card: &Layout<'_>, arm: usize, cases: usize) -> bool
-    ensures { OnceAt (tokens_in card.now) cases arm result }
+// How many fields a case has, if it is there.
+fn fields_of(card: &Layout<'_>, of: u16, case: u8) -> Option<u8>
+    ensures { result ≡ fields_in (tokens_in card.now) of case }
 {
-    for case in (0..cases).rev() {
-        if arms_of(card, arm, case) != 1 {
-            return false;
-        }
-    }
-    true
+    fields_at(card, card.case(of, case)?)
 }
 
 // As many names as the case has fields.
-fn names_fit(card: &Layout<'_>, of: u16, case: u8, names: u8) -> bool
-    ensures { OfEnum (tokens_in card.now) of (λ E. result ≡ as_fields names (at E case)) }
+fn names_fit(card: &Layout<'_>, of: u16, arm: Arm) -> bool
+    ensures { result ≡ names_fit (tokens_in card.now) of arm }
 {
-    match card.case(of, case) {
-        Some(place) => match fields_at(card, place) {
-            Some(fields) => names == fields,
-            None => false,
-        },
-        None => false,
-    }
+    fields_of(card, of, arm.case) == Some(arm.names)
 }
 
-// Every arm is of a case of the enum, with as many names as fields.
-fn all_named(card: &Layout<'_>, arm: usize, of: u16) -> bool
-    ensures { NamedAt (tokens_in card.now) of arm result }
-{
-    match arm_at(card, arm) {
-        Some(here) => {
-            names_fit(card, of, here.case, here.names) && all_named(card, next_arm(card, arm), of)
-        }
-        None => true,
+impl ArmsFrom<'_, '_> {
+    // One of them is of a case.
+    fn taken_once(self, case: usize) -> bool
+        ensures { result ≡ taken_once (arms_left self.entry) case }
+    {
+        self.filter(|arm| arm.case as usize == case).count() == 1
+    }
+
+    fn each_once(self, cases: usize) -> bool
+        ensures { result ≡ list_all (taken_once (arms_left self.entry)) (range_with_len 0 cases) }
+    {
+        (0..cases).all(|case| self.taken_once(case))
+    }
+
+    // Each is of a case of the enum, with as many names as fields.
+    fn all_named(mut self, of: u16) -> bool
+        ensures { result ≡ list_all (names_fit (tokens_in self.entry.card.now) of) (arms_left self.entry) }
+    {
+        let card = self.card;
+        self.all(|arm| names_fit(card, of, arm))
     }
 }
 
@@ -76,5 +79,6 @@ fn all_named(card: &Layout<'_>, arm: usize, of: u16) -> bool
 pub fn arms_fit(card: &Layout<'_>, arm: usize, of: u16, cases: usize) -> bool
     ensures { FitAt (tokens_in card.now) of cases arm result }
 {
-    all_once(card, arm, cases) && all_named(card, arm, of)
+    let arms = ArmsFrom { card, place: arm };
+    arms.each_once(cases) && arms.all_named(of)
 }

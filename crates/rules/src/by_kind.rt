@@ -1,7 +1,6 @@
 ghost use Rattle.std.specs.Prelude.{◌≡◌};
 ghost use Rattle.rules.specs.Rules.{pair_type, if_type, pair_rule, if_rule, declared_rule, leaf_rule};
 ghost use Rattle.rules.specs.Typed.{checked_by};
-ghost use Rattle.verdict.specs.Order.{same_ty, same_tys, there};
 ghost use Rattle.scope.specs.Bound.{scope_of};
 
 use crate::{Broken, TypeFault};
@@ -9,36 +8,15 @@ use battery::Ty;
 use scope::{Entry, newest};
 use table::{Leaf, Pair};
 
-pub fn same(a: Ty, b: Ty) -> bool
-    ensures { result ≡ same_ty a b }
-{
-    a == b
-}
-
-pub(crate) fn all_same(a: &[Ty], b: &[Ty]) -> bool
-    ensures { result ≡ same_tys a.now b.now }
-{
-    if a.len() != b.len() {
-        return false;
-    }
-    for i in 0..a.len() {
-        if !same(a[i], b[i]) {
-            return false;
-        }
-    }
-    true
-}
-
 fn pair_type(pair: Pair, a: Ty, b: Ty) -> Option<Ty>
     ensures { result ≡ pair_type pair a b }
 {
-    let numbers = same(a, Ty::Number) && same(b, Ty::Number);
-    match pair {
-        Pair::Calc(_) if numbers => Some(Ty::Number),
-        Pair::Lt if numbers => Some(Ty::Boolean),
-        Pair::Concat if same(a, Ty::Text) && same(b, Ty::Text) => Some(Ty::Text),
-        Pair::Eq if same(b, a) => Some(Ty::Boolean),
-        Pair::Seq | Pair::Val(_) => Some(b),
+    match (pair, a, b) {
+        (Pair::Calc(_), Ty::Number, Ty::Number) => Some(Ty::Number),
+        (Pair::Lt, Ty::Number, Ty::Number) => Some(Ty::Boolean),
+        (Pair::Concat, Ty::Text, Ty::Text) => Some(Ty::Text),
+        (Pair::Eq, a, b) if a == b => Some(Ty::Boolean),
+        (Pair::Seq | Pair::Val(_), _, b) => Some(b),
         _ => None,
     }
 }
@@ -46,40 +24,26 @@ fn pair_type(pair: Pair, a: Ty, b: Ty) -> Option<Ty>
 fn if_type(condition: Ty, a: Ty, b: Ty) -> Option<Ty>
     ensures { result ≡ if_type condition a b }
 {
-    if same(condition, Ty::Boolean) && same(b, a) {
-        Some(a)
-    } else {
-        None
-    }
-}
-
-fn mistyped(at: usize, ty: Option<Ty>) -> Result<Ty, TypeFault>
-    ensures { checked_by result ≡ there 11 at ty }
-{
-    match ty {
-        Some(ty) => Ok(ty),
-        None => Err(TypeFault {
-            broken: Broken::Mistyped,
-            record: at,
-        }),
-    }
+    (condition == Ty::Boolean && a == b).then_some(a)
 }
 
 pub(crate) fn pair_rule(at: usize, pair: Pair, parts: &[Ty]) -> Result<Ty, TypeFault>
     ensures { checked_by result ≡ pair_rule at pair parts.now }
 {
+    let mistyped = Broken::Mistyped.at(at);
     match parts {
-        [a, b] => mistyped(at, pair_type(pair, *a, *b)),
-        _ => mistyped(at, None),
+        [a, b] => pair_type(pair, *a, *b).ok_or(mistyped),
+        _ => Err(mistyped),
     }
 }
 
 pub(crate) fn if_rule(at: usize, parts: &[Ty]) -> Result<Ty, TypeFault>
     ensures { checked_by result ≡ if_rule at parts.now }
 {
+    let mistyped = Broken::Mistyped.at(at);
     match parts {
-        [condition, a, b] => mistyped(at, if_type(*condition, *a, *b)),
-        _ => mistyped(at, None),
+        [condition, a, b] => if_type(*condition, *a, *b).ok_or(mistyped),
+        _ => Err(mistyped),
     }
 }
 
@@ -93,16 +57,10 @@ pub(crate) fn declared_rule(
     ensures { checked_by result ≡ declared_rule at parts.now declared.now returned }
 {
     if parts.len() != declared.len() {
-        return Err(TypeFault {
-            broken: Broken::Count,
-            record: at,
-        });
+        return Err(Broken::Count.at(at));
     }
-    if !all_same(parts, declared) {
-        return Err(TypeFault {
-            broken: Broken::Mistyped,
-            record: at,
-        });
+    if parts != declared {
+        return Err(Broken::Mistyped.at(at));
     }
     Ok(returned)
 }
@@ -115,12 +73,6 @@ pub fn leaf_rule(at: usize, leaf: Leaf, entries: &[Entry<Ty>]) -> Result<Ty, Typ
         Leaf::Number(_) => Ok(Ty::Number),
         Leaf::Boolean(_) => Ok(Ty::Boolean),
         Leaf::Text { .. } => Ok(Ty::Text),
-        Leaf::Local(name) => match newest(entries, name as u32) {
-            Some(ty) => Ok(ty),
-            None => Err(TypeFault {
-                broken: Broken::Unbound,
-                record: at,
-            }),
-        },
+        Leaf::Local(name) => newest(entries, name as u32).ok_or(Broken::Unbound.at(at)),
     }
 }

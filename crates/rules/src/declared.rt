@@ -1,21 +1,25 @@
 ghost use Rattle.std.specs.Prelude.{◌≡◌, ◌+◌, ◌≤◌, Some};
+ghost use Rattle.std.specs.Option.{option_map};
 ghost use Rattle.battery.specs.Tree.{at as standing};
 ghost use Rattle.numbering.specs.Numbering.{case_of};
 ghost use Rattle.verdict.specs.Order.{fields_of};
 ghost use Rattle.numbering.specs.Views.{tokens_in, OnCard};
-ghost use Rattle.rules.specs.Listed.{types_of};
-ghost use Rattle.rules.specs.Signatures.{SameTypes, SameSignature, DeclaredAt};
+ghost use Rattle.few.specs.Listed.{listed};
+ghost use Rattle.rules.specs.Signatures.{SameSignature, DeclaredAt};
 ghost use Rattle.rules.specs.Rules.{many_rule, ruled};
 ghost use Rattle.rules.specs.Standing.{TypesAt, OfEnum};
 ghost use Rattle.rules.specs.Typed.{checked_by};
 
 use crate::by_kind::{declared_rule, if_rule, pair_rule};
 use crate::standing::{fields_at, parameters_at, type_at};
-use crate::types::Types;
 use crate::{Broken, TypeFault};
 use battery::Ty;
+use few::Few;
 use numbering::Layout;
 use table::{Head, Many};
+
+// The types of at most four parts, fields or parameters, in order.
+pub type Types = Few<Ty, 4>;
 
 // What a function takes and gives.
 #[derive(Drop)]
@@ -24,44 +28,32 @@ pub struct Signature {
     pub result: Ty,
 }
 
-// n types more, from a place on.
-fn more_types(card: &Layout<'_>, from: usize, n: u8, mut types: Types) -> Types
+// The types that stand at n places, from one on.
+fn types_at(card: &Layout<'_>, from: usize, n: u8) -> Option<Types>
     requires { from + n ≤ 1024 }
-    ensures { TypesAt (tokens_in card.now) from n (types_of types) (types_of result) }
+    ensures { TypesAt (tokens_in card.now) from n result }
 {
-    if n == 0 {
-        return types;
+    let mut types = Types::new();
+    for place in from..from + n as usize {
+        types.push(type_at(card, place)?);
     }
-    match type_at(card, from) {
-        Some(ty) => {
-            types.push(ty);
-            more_types(card, from + 1, n - 1, types)
-        }
-        None => types,
-    }
+    Some(types)
 }
 
 // The fields of an enum's case, if it is there.
-pub(crate) fn case_types(card: &Layout<'_>, of: u16, case: u8) -> Option<Types>
-    ensures { OnCard (tokens_in card.now) (λ C. SameTypes result (case_of C of case)) }
+fn case_types(card: &Layout<'_>, of: u16, case: u8) -> Option<Types>
+    ensures { OnCard (tokens_in card.now) (λ C. option_map listed result ≡ case_of C of case) }
 {
-    match card.case(of, case) {
-        Some(place) => match fields_at(card, place) {
-            Some(fields) => Some(more_types(card, place + 1, fields, Types::new())),
-            None => None,
-        },
-        None => None,
-    }
+    let place = card.case(of, case)?;
+    let fields = fields_at(card, place)?;
+    types_at(card, place + 1, fields)
 }
 
 // The fields that an arm's names are bound to: none where the case is not there.
 pub fn fields(card: &Layout<'_>, of: u16, case: u8) -> Types
-    ensures { OfEnum (tokens_in card.now) of (λ E. fields_of (standing E case) ≡ types_of result) }
+    ensures { OfEnum (tokens_in card.now) of (λ E. fields_of (standing E case) ≡ listed result) }
 {
-    match case_types(card, of, case) {
-        Some(types) => types,
-        None => Types::new(),
-    }
+    case_types(card, of, case).unwrap_or_else(Types::new)
 }
 
 // What the DEF at a place declares.
@@ -69,8 +61,8 @@ fn signature_at(card: &Layout<'_>, place: usize) -> Option<Signature>
     ensures { DeclaredAt (tokens_in card.now) place result }
 {
     let n = parameters_at(card, place)?;
+    let parameters = types_at(card, place + 1, n)?;
     let result = type_at(card, place + 1 + n as usize)?;
-    let parameters = more_types(card, place + 1, n, Types::new());
     Some(Signature { parameters, result })
 }
 
@@ -78,36 +70,23 @@ fn signature_at(card: &Layout<'_>, place: usize) -> Option<Signature>
 pub fn function_types(card: &Layout<'_>, function: u16) -> Option<Signature>
     ensures { OnCard (tokens_in card.now) (λ C. SameSignature result (standing C.fns function)) }
 {
-    match card.function(function) {
-        Some(place) => signature_at(card, place),
-        None => None,
-    }
+    signature_at(card, card.function(function)?)
 }
 
 // CALL and MAKE take as many parts, of the types, as the DEF or CASE declares.
 fn many_rule(card: &Layout<'_>, at: usize, many: Many, parts: &[Ty]) -> Result<Ty, TypeFault>
     ensures { OnCard (tokens_in card.now) (λ C. checked_by result ≡ many_rule C at many parts.now) }
 {
+    let missing = Broken::Count.at(at);
     match many {
-        Many::Call(function) => match function_types(card, function) {
-            Some(signature) => declared_rule(
-                at,
-                parts,
-                signature.parameters.slice(),
-                signature.result,
-            ),
-            None => Err(TypeFault {
-                broken: Broken::Count,
-                record: at,
-            }),
-        },
-        Many::Make { of, case } => match case_types(card, of, case) {
-            Some(fields) => declared_rule(at, parts, fields.slice(), Ty::Enum(of)),
-            None => Err(TypeFault {
-                broken: Broken::Count,
-                record: at,
-            }),
-        },
+        Many::Call(function) => {
+            let signature = function_types(card, function).ok_or(missing)?;
+            declared_rule(at, parts, signature.parameters.as_slice(), signature.result)
+        }
+        Many::Make { of, case } => {
+            let fields = case_types(card, of, case).ok_or(missing)?;
+            declared_rule(at, parts, fields.as_slice(), Ty::Enum(of))
+        }
     }
 }
 
@@ -119,9 +98,6 @@ pub fn rule(card: &Layout<'_>, at: usize, head: Head, parts: &[Ty]) -> Result<Ty
         Head::Pair(pair) => pair_rule(at, pair, parts),
         Head::If => if_rule(at, parts),
         Head::Many(_, many) => many_rule(card, at, many, parts),
-        _ => Err(TypeFault {
-            broken: Broken::Mistyped,
-            record: at,
-        }),
+        _ => Err(Broken::Mistyped.at(at)),
     }
 }

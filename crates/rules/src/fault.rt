@@ -1,3 +1,5 @@
+ghost use Rattle.std.specs.Prelude.{◌≡◌};
+
 // Which rule of typing a record breaks.
 #[derive(Clone, Copy)]
 pub enum Broken {
@@ -11,4 +13,15 @@ pub enum Broken {
 pub struct TypeFault {
     pub broken: Broken,
     pub record: usize,
+}
+
+impl Broken {
+    pub fn at(self, place: usize) -> TypeFault
+        ensures { result ≡ record { broken = self; «record» = place } }
+    {
+        TypeFault {
+            broken: self,
+            record: place,
+        }
+    }
 }

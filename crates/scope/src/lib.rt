@@ -19,10 +19,9 @@ pub struct Full;
 pub fn newest<T: Copy>(entries: &[Entry<T>], name: u32) -> Option<T>
     ensures { result ≡ find (scope_of entries.now) name }
 {
-    for i in (0..entries.len()).rev() {
-        let e = entries[i];
-        if e.name == name {
-            return Some(e.value);
+    for entry in entries.iter().rev() {
+        if entry.name == name {
+            return Some(entry.value);
         }
     }
     None

@@ -1,7 +1,7 @@
 -- Laws of two lists of which one is filled after the other.
-use Rattle.std.proofs.Common.{◌≡◌, ℕ, suc, ◌+◌, ◌<◌, ◌≤◌, min, Bool, true, false, cond, ltb, ◌⊎◌, List, [], ◌∷◌, ◌++◌, length, take, Some, None, sym, refl, ap, ◌∙◌, inl, inr, append_assoc, append-nil, arith, length-append, length-take, take_all, le-ltb, lt-ltb}
+use Rattle.std.proofs.Common.{◌≡◌, ℕ, suc, ◌+◌, ◌<◌, ◌≤◌, min, Bool, true, false, cond, ltb, ◌⊎◌, List, [], ◌∷◌, ◌++◌, length, take, None, sym, refl, ap, ◌∙◌, inl, inr, append_assoc, append-nil, arith, length-append, length-take, take_all, le-ltb, lt-ltb}
 use Rattle.std.proofs.lemmas.Bool.Decides.{leb_tells}
-use Rattle.battery.specs.Cell.{Cell, placed, added}
+use Rattle.battery.specs.Cell.{Cell, added}
 use Rattle.battery.specs.Tree.{at}
 use Rattle.stores.specs.Within.{Within}
 use Rattle.stores.specs.Pair.{chain, sum}
@@ -47,20 +47,10 @@ module _ {C : Type 0} where
   in_neither xs ys m k h = sym (at_past (chain xs m ys) k h)
 
 -- a put where there is room
-pub room_placed : (k n : ℕ) (cs : List Cell) → k ≡ length cs → length cs < n → Some k ≡ placed n cs
-room_placed k n cs e h = let t = lt-ltb (length cs) n h in rw (t, e)
-
 room_added : (n : ℕ) (cs : List Cell) (c : Cell) → length cs < n → added n cs c ≡ cs ++ c ∷ []
 room_added n cs c h = let t = lt-ltb (length cs) n h in rw t
 
 module _ (xs ys zs : List Cell) (m n : ℕ) (c : Cell) (w : Within xs m) (room : length (chain xs m ys) < sum m n) where
-  -- a cell more in the first, which leaves room there
-  pub add_low : length xs + 1 < m → zs ≡ added m xs c → chain zs m ys ≡ added (sum m n) (chain xs m ys) c
-  add_low h e =
-      let is = e ∙ room_added m xs c (omega arith) in
-      let long : length zs ≡ length xs + 1 = ap length is ∙ length-append xs (c ∷ []) in
-      chain_low zs ys m (omega arith) ∙ is ∙ ap (λ (l : List Cell). l ++ c ∷ []) (sym (chain_low xs ys m (omega arith))) ∙ sym (room_added (sum m n) (chain xs m ys) c room)
-
   -- a cell more, by which the first is full
   pub add_last : length xs + 1 ≡ m → zs ≡ added m xs c → chain zs m [] ≡ added (sum m n) (chain xs m ys) c
   add_last h e =

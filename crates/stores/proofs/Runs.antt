@@ -1,5 +1,5 @@
 -- Laws of the cells that a run holds, and of a look at a place.
-use Rattle.std.proofs.Common.{◌≡◌, ℕ, zero, suc, ◌+◌, ◌<◌, ◌≤◌, min, List, [], ◌∷◌, ◌++◌, map, length, get_or, take, set, Some, None, sym, refl, ap, ◌∙◌, le_of_suc-le-suc, not-suc-le-zero, arith, length-set, length-take}
+use Rattle.std.proofs.Common.{◌≡◌, ℕ, zero, suc, ◌+◌, ◌<◌, ◌≤◌, min, List, [], ◌∷◌, ◌++◌, map, length, take, set, None, refl, ap, ◌∙◌, le_of_suc-le-suc, not-suc-le-zero, arith, length-set, length-take}
 use Rattle.std.proofs.lemmas.List.{length-map, map-append, take_more_set}
 use Rattle.battery.specs.Tree.{at}
 use Rattle.cells.specs.Meaning.{meaning}
@@ -30,18 +30,6 @@ module _ {C : Type 0} where
 
 pub length_held : (u : ℕ) (xs : List Cell) → min u (room xs) ≡ length (held u xs)
 length_held u xs = simp (length-map, length-take) (omega arith)
-
-at_first : (n : ℕ) (xs : List Cell) (k : ℕ) (d : Cell) → k < n → k < length xs → Some (meaning (get_or xs k d)) ≡ at (map meaning (take n xs)) k
-at_first zero xs k d h i = absurd (not-suc-le-zero h)
-at_first (suc n) [] k d h i = absurd (not-suc-le-zero i)
-at_first (suc n) (x ∷ xs) zero d h i = refl
-at_first (suc n) (x ∷ xs) (suc k) d h i = at_first n xs k d (le_of_suc-le-suc h) (le_of_suc-le-suc i)
-
-pub read_in : (u : ℕ) (xs : List Cell) (k : ℕ) (d : Cell) → k < length (held u xs) → Some (meaning (get_or xs k d)) ≡ at (held u xs) k
-read_in u xs k d h = let l = length_held u xs in at_first (min u (room xs)) xs k d (omega arith) (omega arith)
-
-pub read_past : (u : ℕ) (xs : List Cell) (k : ℕ) → length (held u xs) ≤ k → None ≡ at (held u xs) k
-read_past u xs k h = sym (at_past (held u xs) k h)
 
 -- one more cell behind those held
 pub held_more : (u : ℕ) (xs : List Cell) (k : ℕ) (c : Cell) → k < room xs → k ≡ length (held u xs) → held (k + 1) (set xs k c) ≡ held u xs ++ meaning c ∷ []

@@ -15,12 +15,11 @@ pub struct Pair<P, Q> {
     second: Q,
 }
 
-// Where a place lies: in one of the two stores, by its place there, or in neither.
+// Where a place lies: in one of the two stores, by its place there.
 #[derive(Clone, Copy)]
 enum Side {
     First(u16),
     Second(u16),
-    Neither,
 }
 
 // The length of two lists together, from their lengths and the most of the first.
@@ -69,17 +68,18 @@ impl<P: Store, Q: Store> Pair<P, Q> {
         place
     }
 
-    fn side(&self, place: u16) -> Side
+    // Nothing where the place lies in neither.
+    fn side(&self, place: u16) -> Option<Side>
         ensures { Lies (P.Store.cells self.now.first) (P.Store.limit self.now.first) (Q.Store.cells self.now.second) place result }
     {
         let first = self.first.len();
         if place < first {
-            return Side::First(place);
+            return Some(Side::First(place));
         }
         if place < chained(first, self.first.most(), self.second.len()) {
-            return Side::Second(place - first);
+            return Some(Side::Second(place - first));
         }
-        Side::Neither
+        None
     }
 }
 
@@ -87,8 +87,6 @@ impl<P: Store, Q: Store> Store for Pair<P, Q> {
     ghost cells = { λ p. chain (P.Store.cells p.first) (P.Store.limit p.first) (Q.Store.cells p.second) };
 
     ghost limit = { λ p. sum (P.Store.limit p.first) (Q.Store.limit p.second) };
-
-    ghost within = { λ p. chain_within (P.Store.cells p.first) (Q.Store.cells p.second) (P.Store.limit p.first) (Q.Store.limit p.second) (P.Store.within p.first) (Q.Store.within p.second) };
 
     fn put(&mut self, cell: Cell) -> Option<u16> {
         if self.len() >= self.most() {
@@ -98,10 +96,9 @@ impl<P: Store, Q: Store> Store for Pair<P, Q> {
     }
 
     fn get(&self, place: u16) -> Option<Cell> {
-        match self.side(place) {
+        match self.side(place)? {
             Side::First(place) => self.first.get(place),
             Side::Second(place) => self.second.get(place),
-            Side::Neither => None,
         }
     }
 
@@ -122,4 +119,6 @@ impl<P: Store, Q: Store> Store for Pair<P, Q> {
         self.first.empty();
         self.second.empty();
     }
+
+    ghost within = { λ p. chain_within (P.Store.cells p.first) (Q.Store.cells p.second) (P.Store.limit p.first) (Q.Store.limit p.second) (P.Store.within p.first) (Q.Store.within p.second) };
 }

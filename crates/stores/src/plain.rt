@@ -21,11 +21,7 @@ fn counted(slots: &[Cell], used: u16) -> u16
     ensures len { result ≡ length (held used slots.now) }
     ensures within { result ≤ length slots.now }
 {
-    if (used as usize) < slots.len() {
-        used
-    } else {
-        slots.len() as u16
-    }
+    slots.len().min(used as usize) as u16
 }
 
 // Writes a cell behind those held.
@@ -41,11 +37,8 @@ fn write(slots: &mut [Cell], place: u16, cell: Cell)
 fn read(slots: &[Cell], used: u16, place: u16) -> Option<Cell>
     ensures { option_map meaning result ≡ at (held used slots.now) place }
 {
-    if place < counted(slots, used) {
-        Some(slots[place as usize])
-    } else {
-        None
-    }
+    let held = &slots[..counted(slots, used) as usize];
+    held.get(place as usize).copied()
 }
 
 impl<'a> Plain<'a> {
@@ -62,8 +55,6 @@ impl<'a> Store for Plain<'a> {
     ghost cells = { λ p. held p.used p.slots.now };
 
     ghost limit = { λ p. room p.slots.now };
-
-    ghost within = { λ p. held_within p.used p.slots.now };
 
     fn put(&mut self, cell: Cell) -> Option<u16>
         ensures answer { result ≡ placed (room self.old.slots.now) (held self.old.used self.old.slots.now) }
@@ -90,8 +81,7 @@ impl<'a> Store for Plain<'a> {
     }
 
     fn most(&self) -> u16 {
-        let slots = self.slots.len();
-        if slots < 65535 { slots as u16 } else { 65535 }
+        self.slots.len().min(65535) as u16
     }
 
     fn empty(&mut self)
@@ -102,4 +92,6 @@ impl<'a> Store for Plain<'a> {
     {
         self.used = 0;
     }
+
+    ghost within = { λ p. held_within p.used p.slots.now };
 }

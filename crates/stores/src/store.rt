@@ -13,9 +13,6 @@ pub trait Store {
 
     ghost limit: { Self → ℕ };
 
-    // What each make of store shows: the list is within the most, and the most within 65,535.
-    ghost within: { (s : Self) → Within (cells s) (limit s) };
-
     // Adds the cell and answers its place, the old length; at the most nothing is added.
     fn put(&mut self, cell: Cell) -> Option<u16>
         ensures answer { result ≡ placed (limit self.old) (cells self.old) }
@@ -36,4 +33,7 @@ pub trait Store {
     fn empty(&mut self)
         ensures list { cells self.new ≡ [] }
         ensures most { limit self.new ≡ limit self.old };
+
+    // What each make of store shows: the list is within the most, and the most within 65,535.
+    ghost within: { (s : Self) → Within (cells s) (limit s) };
 }

@@ -1,30 +1,12 @@
 use battery::Value;
 use cells::{Cell, EnumValue, Text, Values};
-use std::fmt::Debug;
+use expect::{check, check_eq};
 use std::test::Fail;
 use stores::{Pair, Plain, Store};
 
-// Fails a test from inside a helper.
-fn check(holds: bool) -> Result<(), Fail> {
-    if holds {
-        Ok(())
-    } else {
-        Err(Fail::new("does not hold"))
-    }
-}
-
-fn check_eq<T: PartialEq + Debug + Drop>(one: T, other: T) -> Result<(), Fail> {
-    if one == other {
-        return Ok(());
-    }
-    Err(Fail::new(format_args!("{one:?} is not {other:?}")))
-}
-
 fn text(bytes: &[u8]) -> Result<Cell, Fail> {
-    match Text::of(bytes) {
-        Some(text) => Ok(Cell::Text(text)),
-        None => Err(Fail::new("over 24 bytes")),
-    }
+    let text = Text::of(bytes).ok_or_else(|| Fail::new("over 24 bytes"))?;
+    Ok(Cell::Text(text))
 }
 
 fn enum_value(of: u16, case: u8, field: Value) -> Cell {
@@ -47,10 +29,7 @@ fn filled<S: Store>(store: &mut S, cell: Cell) -> Result<u16, Fail> {
 }
 
 fn holds<S: Store>(store: &S, place: u16, cell: Cell) -> bool {
-    match store.get(place) {
-        Some(held) => held == cell,
-        None => false,
-    }
+    store.get(place) == Some(cell)
 }
 
 #[test]
@@ -80,8 +59,8 @@ fn four_fields(rt: HostRuntime) -> Result<(), Fail> {
     for i in 0..5i32 {
         fields.push(Value::Number(i));
     }
-    assert_eq!(rt; fields.slice().len(), 4);
-    let Some(last) = fields.slice().last() else {
+    assert_eq!(rt; fields.as_slice().len(), 4);
+    let Some(last) = fields.as_slice().last() else {
         return Err(Fail::new("no field"));
     };
     assert!(rt; *last == Value::Number(3));

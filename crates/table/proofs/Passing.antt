@@ -1,5 +1,5 @@
 -- A pass over the records: the tokens written so far, before those that are still to be read.
-use Rattle.std.proofs.Common.{◌≡◌, ℕ, suc, ◌+◌, ◌-◌, ◌<◌, ◌≤◌, List, [], ◌∷◌, ◌++◌, length, take, set, IfSome, Some, None, Ok, Err, Option, Result, sym, refl, ap, ◌∙◌, subst, arith}
+use Rattle.std.proofs.Common.{◌≡◌, ℕ, suc, ◌+◌, ◌-◌, ◌<◌, ◌≤◌, List, [], ◌∷◌, ◌++◌, length, take, set, Some, None, Ok, Err, Result, sym, refl, ap, ◌∙◌, subst, arith}
 use Rattle.std.proofs.lemmas.List.{append_assoc, append-nil, take_all, take_more_set}
 use Rattle.table.specs.declared.token.Token.{Token}
 use Rattle.table.specs.Naming.{token_in, before, tokens_from}
@@ -66,8 +66,3 @@ passed_all image p n tokens place i long h so =
     so
     ∙ ap (λ k. after (take i tokens) (tokens_from image place i k)) none
     ∙ ap Ok (append-nil (take i tokens) ∙ take_all i tokens (omega arith))
-
--- where a fact holds anyway, it holds of a value too
-pub either_way : {A P : Type 0} (o : Option A) → P → IfSome o (λ _. P)
-either_way None x = tt
-either_way (Some a) x = x

@@ -1,3 +1,3 @@
-pub mod Rows
+pub mod Kinds
 pub mod Naming
 pub mod Sorts

@@ -6,18 +6,15 @@ use Rattle.battery.specs.declared.Arith.TheVariants.{Add, Mul, Div, Mod}
 use Rattle.battery.specs.Tree.{◌▸◌}
 use Rattle.image.specs.declared.record.Record.{Record}
 use Rattle.image.specs.Bytes.{record_in}
-use Rattle.table.specs.declared.row.Parts.{Parts}
-use Rattle.table.specs.declared.row.Parts.TheVariants.{Nothing, Two, Three, AsMany, OneAndArms, TypeAndOne, Grouped}
+use Rattle.table.specs.declared.kind.Kind.{Kind}
+use Rattle.table.specs.declared.kind.Kind.TheVariants as kind
 use Rattle.table.specs.declared.token.Token.{Token}
 use Rattle.table.specs.declared.token.Token.TheVariants.{Close as CLOSE, Enum as ENUM, Case as CASE, Def as DEF, Ty as TYPE, Arm as ARM, Expr as EXPR}
 use Rattle.table.specs.declared.token.Head.TheVariants.{Leaf as LEAF, Pair as PAIR, If as IF, Match as MATCH, Exit as EXIT, Many as MANY}
-use Rattle.table.specs.declared.token.Leaf.{Leaf}
 use Rattle.table.specs.declared.token.Leaf.TheVariants.{Unit as UNIT, Number as NUM, Boolean as BOOL, Text as STR, Local as LOCAL}
-use Rattle.table.specs.declared.token.Pair.{Pair}
 use Rattle.table.specs.declared.token.Pair.TheVariants.{Calc as CALC, Concat as CONCAT, Eq as EQ, Lt as LT, Seq as SEQ, Val as VAL}
-use Rattle.table.specs.declared.token.Many.{Many}
 use Rattle.table.specs.declared.token.Many.TheVariants.{Call as CALL, Make as MAKE}
-use Rattle.table.specs.Rows.{row_at, fits}
+use Rattle.table.specs.Kinds.{kind_at, fits}
 
 abbrev pub nat_of : ℤ → ℕ
 nat_of (pos n) = n
@@ -30,49 +27,36 @@ small c = cond (int_le (pos 0) c && int_le c (pos 255)) (nat_of c) 0
 abbrev pub type_named : ℕ → ℕ → Ty
 type_named a b = cond (a == 0) unit (cond (a == 1) number (cond (a == 2) boolean (cond (a == 3) text (enum b))))
 
-abbrev pub leaf_of : Record → Leaf
-leaf_of r =
-    cond (r.kind == 16) UNIT
-    (cond (r.kind == 17) (NUM r.c)
-    (cond (r.kind == 18) (BOOL (r.a == 1))
-    (cond (r.kind == 19) (STR r.b (small r.c))
-    (LOCAL r.b))))
-
-abbrev pub pair_of : Record → Pair
-pair_of r =
-    cond (r.kind == 21) (CALC Add)
-    (cond (r.kind == 22) (CALC Mul)
-    (cond (r.kind == 23) (CALC Div)
-    (cond (r.kind == 24) (CALC Mod)
-    (cond (r.kind == 25) CONCAT
-    (cond (r.kind == 26) EQ
-    (cond (r.kind == 27) LT
-    (cond (r.kind == 28) SEQ
-    (VAL r.b))))))))
-
-abbrev pub many_of : Record → Many
-many_of r = cond (r.kind == 31) (CALL r.b) (MAKE r.b (small r.c))
-
-abbrev pub grouped_of : Record → Token
-grouped_of r =
-    cond (r.kind == 0) CLOSE
-    (cond (r.kind == 1) (ENUM r.b)
-    (cond (r.kind == 2) (CASE r.a r.b)
-    (cond (r.kind == 3) (DEF r.a r.b)
-    (cond (r.kind == 8) (TYPE (type_named r.a r.b))
-    (ARM r.a r.b (small r.c))))))
-
-abbrev pub named : Parts → Record → Token
-named Nothing r = EXPR (LEAF (leaf_of r))
-named Two r = EXPR (PAIR (pair_of r))
-named Three r = EXPR IF
-named AsMany r = EXPR (MANY r.a (many_of r))
-named OneAndArms r = EXPR MATCH
-named TypeAndOne r = EXPR EXIT
-named Grouped r = grouped_of r
+-- the token of a record of a kind
+abbrev pub named : Kind → Record → Token
+named kind.Close r = CLOSE
+named kind.Enum r = ENUM r.b
+named kind.Case r = CASE r.a r.b
+named kind.Def r = DEF r.a r.b
+named kind.Ty r = TYPE (type_named r.a r.b)
+named kind.Arm r = ARM r.a r.b (small r.c)
+named kind.Unit r = EXPR (LEAF UNIT)
+named kind.Number r = EXPR (LEAF (NUM r.c))
+named kind.Boolean r = EXPR (LEAF (BOOL (r.a == 1)))
+named kind.Text r = EXPR (LEAF (STR r.b (small r.c)))
+named kind.Local r = EXPR (LEAF (LOCAL r.b))
+named kind.Add r = EXPR (PAIR (CALC Add))
+named kind.Mul r = EXPR (PAIR (CALC Mul))
+named kind.Div r = EXPR (PAIR (CALC Div))
+named kind.Mod r = EXPR (PAIR (CALC Mod))
+named kind.Concat r = EXPR (PAIR CONCAT)
+named kind.Eq r = EXPR (PAIR EQ)
+named kind.Lt r = EXPR (PAIR LT)
+named kind.Seq r = EXPR (PAIR SEQ)
+named kind.Val r = EXPR (PAIR (VAL r.b))
+named kind.If r = EXPR IF
+named kind.Match r = EXPR MATCH
+named kind.Exit r = EXPR EXIT
+named kind.Call r = EXPR (MANY r.a (CALL r.b))
+named kind.Make r = EXPR (MANY r.a (MAKE r.b (small r.c)))
 
 abbrev pub token_of : Record → Option Token
-token_of r = row_at r.kind ▸ λ w. cond (fits w r) (Some (named w.parts r)) None
+token_of r = kind_at r.kind ▸ λ k. cond (fits k r) (Some (named k r)) None
 
 -- the lowest record that the table does not know
 abbrev pub unknown : ℕ → List Record → Option ℕ

@@ -1,11 +1,13 @@
 #![tactic(auto)]
 
+mod kind;
+mod limits;
 mod name;
 mod pass;
-mod row;
 mod token;
 
+pub use kind::{Kind, UnknownKind};
+pub use limits::Limits;
 pub use name::token_of;
 pub use pass::tokens_of;
-pub use row::{Parts, Row, row_of};
 pub use token::{Arm, Head, Leaf, Many, Pair, Token};

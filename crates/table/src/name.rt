@@ -1,7 +1,7 @@
 ghost use Rattle.std.specs.Prelude.{◌≡◌};
-ghost use Rattle.table.specs.Naming.{leaf_of, pair_of, many_of, grouped_of, type_named, named as named_as, token_of, small as small_of};
+ghost use Rattle.table.specs.Naming.{type_named, named as named_as, token_of, small as small_of};
 
-use crate::{Head, Leaf, Many, Pair, Parts, Token, row_of};
+use crate::{Head, Kind, Leaf, Many, Pair, Token};
 use battery::{Arith, Ty};
 use image::Record;
 
@@ -9,7 +9,7 @@ use image::Record;
 fn small(c: i32) -> u8
     ensures { result ≡ small_of c }
 {
-    if c >= 0 && c <= 255 { c as u8 } else { 0 }
+    u8::try_from(c).unwrap_or(0)
 }
 
 fn type_named(a: u8, b: u16) -> Ty
@@ -24,84 +24,50 @@ fn type_named(a: u8, b: u16) -> Ty
     }
 }
 
-fn leaf(r: Record) -> Leaf
-    ensures { result ≡ leaf_of r }
+// A record of a kind whose limits it keeps.
+fn named(kind: Kind, r: Record) -> Token
+    ensures { result ≡ named_as kind r }
 {
-    match r.kind {
-        16 => Leaf::Unit,
-        17 => Leaf::Number(r.c),
-        18 => Leaf::Boolean(r.a == 1),
-        19 => Leaf::Text {
-            place: r.b,
-            length: small(r.c),
-        },
-        _ => Leaf::Local(r.b),
-    }
-}
-
-fn pair(r: Record) -> Pair
-    ensures { result ≡ pair_of r }
-{
-    match r.kind {
-        21 => Pair::Calc(Arith::Add),
-        22 => Pair::Calc(Arith::Mul),
-        23 => Pair::Calc(Arith::Div),
-        24 => Pair::Calc(Arith::Mod),
-        25 => Pair::Concat,
-        26 => Pair::Eq,
-        27 => Pair::Lt,
-        28 => Pair::Seq,
-        _ => Pair::Val(r.b),
-    }
-}
-
-fn many(r: Record) -> Many
-    ensures { result ≡ many_of r }
-{
-    match r.kind {
-        31 => Many::Call(r.b),
-        _ => Many::Make {
-            of: r.b,
-            case: small(r.c),
-        },
-    }
-}
-
-fn grouped(r: Record) -> Token
-    ensures { result ≡ grouped_of r }
-{
-    match r.kind {
-        0 => Token::Close,
-        1 => Token::Enum(r.b),
-        2 => Token::Case {
+    let (number, case) = (r.b, small(r.c));
+    match kind {
+        Kind::Close => Token::Close,
+        Kind::Enum => Token::Enum(number),
+        Kind::Case => Token::Case {
             fields: r.a,
-            number: r.b,
+            number,
         },
-        3 => Token::Def {
+        Kind::Def => Token::Def {
             parameters: r.a,
-            number: r.b,
+            number,
         },
-        8 => Token::Ty(type_named(r.a, r.b)),
-        _ => Token::Arm {
+        Kind::Ty => Token::Ty(type_named(r.a, r.b)),
+        Kind::Arm => Token::Arm {
             names: r.a,
             first: r.b,
-            case: small(r.c),
+            case,
         },
-    }
-}
-
-// The sort of token goes by what follows the record, and its name by the kind.
-fn named(parts: Parts, r: Record) -> Token
-    ensures { result ≡ named_as parts r }
-{
-    match parts {
-        Parts::Nothing => Token::Expr(Head::Leaf(leaf(r))),
-        Parts::Two => Token::Expr(Head::Pair(pair(r))),
-        Parts::Three => Token::Expr(Head::If),
-        Parts::AsMany => Token::Expr(Head::Many(r.a, many(r))),
-        Parts::OneAndArms => Token::Expr(Head::Match),
-        Parts::TypeAndOne => Token::Expr(Head::Exit),
-        Parts::Grouped => grouped(r),
+        Kind::Unit => Token::Expr(Head::Leaf(Leaf::Unit)),
+        Kind::Number => Token::Expr(Head::Leaf(Leaf::Number(r.c))),
+        Kind::Boolean => Token::Expr(Head::Leaf(Leaf::Boolean(r.a == 1))),
+        Kind::Text => Token::Expr(Head::Leaf(Leaf::Text {
+            place: r.b,
+            length: case,
+        })),
+        Kind::Local => Token::Expr(Head::Leaf(Leaf::Local(r.b))),
+        Kind::Add => Token::Expr(Head::Pair(Pair::Calc(Arith::Add))),
+        Kind::Mul => Token::Expr(Head::Pair(Pair::Calc(Arith::Mul))),
+        Kind::Div => Token::Expr(Head::Pair(Pair::Calc(Arith::Div))),
+        Kind::Mod => Token::Expr(Head::Pair(Pair::Calc(Arith::Mod))),
+        Kind::Concat => Token::Expr(Head::Pair(Pair::Concat)),
+        Kind::Eq => Token::Expr(Head::Pair(Pair::Eq)),
+        Kind::Lt => Token::Expr(Head::Pair(Pair::Lt)),
+        Kind::Seq => Token::Expr(Head::Pair(Pair::Seq)),
+        Kind::Val => Token::Expr(Head::Pair(Pair::Val(r.b))),
+        Kind::If => Token::Expr(Head::If),
+        Kind::Match => Token::Expr(Head::Match),
+        Kind::Exit => Token::Expr(Head::Exit),
+        Kind::Call => Token::Expr(Head::Many(r.a, Many::Call(r.b))),
+        Kind::Make => Token::Expr(Head::Many(r.a, Many::Make { of: r.b, case })),
     }
 }
 
@@ -109,11 +75,9 @@ fn named(parts: Parts, r: Record) -> Token
 pub fn token_of(r: Record) -> Option<Token>
     ensures { result ≡ token_of r }
 {
-    let Some(row) = row_of(r.kind) else {
-        return None;
-    };
-    if row.allows(r) {
-        Some(named(row.parts, r))
+    let kind = Kind::try_from(r.kind).ok()?;
+    if kind.allows(r) {
+        Some(named(kind, r))
     } else {
         None
     }

@@ -5,15 +5,13 @@ use crate::{Token, token_of};
 use image::Reader;
 
 // Nothing where the image has no record more, or the table does not know it.
+#[tactic(auto, unfolding(crate::specs::Naming::token_in))]
 fn next_token(reader: &mut Reader<'_>) -> Option<Token>
     ensures given { result ≡ token_in reader.old.image.now reader.old.place }
     ensures image { reader.new.image.now ≡ reader.old.image.now }
     ensures place { OnSome result (reader.new.place ≡ reader.old.place + 8) }
 {
-    match reader.record() {
-        Some(record) => token_of(record),
-        None => None,
-    }
+    token_of(reader.record()?)
 }
 
 // The tokens of as many records as there is room for, from the reader's place on; or else the
@@ -22,10 +20,7 @@ pub fn tokens_of(mut reader: Reader<'_>, tokens: &mut [Token]) -> Result<(), usi
     ensures { MatchResult result (λ _. tokens_from reader.entry.image.now reader.entry.place 0 (length tokens.old) ≡ Ok tokens.new) (λ i. tokens_from reader.entry.image.now reader.entry.place 0 (length tokens.old) ≡ Err i) }
 {
     for (i, token) in tokens.iter_mut().enumerate() {
-        let Some(known) = next_token(&mut reader) else {
-            return Err(i);
-        };
-        *token = known;
+        *token = next_token(&mut reader).ok_or(i)?;
     }
     Ok(())
 }

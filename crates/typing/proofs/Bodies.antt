@@ -17,7 +17,7 @@ use Rattle.verdict.specs.Order.{Checked, has, fault, ◌▹◌, rule, same_ty, c
 use Rattle.rules.specs.declared.declared.Signature.{Signature}
 use Rattle.rules.specs.declared.fault.TypeFault.{TypeFault}
 use Rattle.rules.specs.declared.fault.Broken.TheVariants.{Mistyped}
-use Rattle.rules.specs.Listed.{types_of}
+use Rattle.few.specs.Listed.{listed}
 use Rattle.rules.specs.Signatures.{SameSignature}
 use Rattle.rules.specs.Typed.{type_number, TypedAt}
 use Rattle.rules.proofs.Walks.{matched_none, matched_some}
@@ -39,22 +39,22 @@ module _ (ws : List Token) where
   -- what a function's place and its declared types say of the function that the card has there
   record Standing (t : List ℕ) (p f : ℕ) (s : Signature) (fn : Fn) : Type 0 where
     opened : fn.opened ≡ p
-    params : types_of s.parameters ≡ fn.params
+    params : listed s.parameters ≡ fn.params
     result : s.result ≡ fn.result
     rest : List Piece
-    body : pieces_of t (p + 2 + length (types_of s.parameters)) (drop (p + 2 + length (types_of s.parameters)) ws) ≡ Some (expr fn.body ∷ rest)
+    body : pieces_of t (p + 2 + length (listed s.parameters)) (drop (p + 2 + length (listed s.parameters)) ws) ≡ Some (expr fn.body ∷ rest)
 
   standing : (f p : ℕ) (s : Signature) → Some p ≡ at (functions_in 0 ws) f → OnCard ws (λ C. SameSignature (Some s) (at C.fns f)) → (t : List ℕ) (C : Card) → card_of t ws ≡ Some C → (fn : Fn) → at C.fns f ≡ Some fn → Standing t p f s fn
   standing f p s e m t C read fn h =
       let x = matched_some (function_at t ws C read f) p (sym e) in
       let y = subst (FnAt t ws p) (Some≡ (sym x.1 ∙ h)) x.2 in
       let z = subst (SameSignature (Some s)) h (m t C read) in
-      let n : length (types_of s.parameters) ≡ y.n = ap length z.0 ∙ sym y.counted in
-      let q : p + 2 + length (types_of s.parameters) ≡ suc (suc p) + y.n = omega arith in
+      let n : length (listed s.parameters) ≡ y.n = ap length z.0 ∙ sym y.counted in
+      let q : p + 2 + length (listed s.parameters) ≡ suc (suc p) + y.n = omega arith in
       record { opened = y.opened; params = z.0; result = z.1; rest = y.rest; body = rw q y.body }
 
   -- the body's type, by the scope of the parameters alone
-  body_type : (f p n : ℕ) (s : Signature) (υs : List Ty) (entries : List (Entry Ty)) (r : Result (Ty × ℕ) TypeFault) → Some p ≡ at (functions_in 0 ws) f → OnCard ws (λ C. SameSignature (Some s) (at C.fns f)) → υs ≡ types_of s.parameters → n ≡ length (types_of s.parameters)
+  body_type : (f p n : ℕ) (s : Signature) (υs : List Ty) (entries : List (Entry Ty)) (r : Result (Ty × ℕ) TypeFault) → Some p ≡ at (functions_in 0 ws) f → OnCard ws (λ C. SameSignature (Some s) (at C.fns f)) → υs ≡ listed s.parameters → n ≡ length (listed s.parameters)
       → scope_of (take (0 + length υs) entries) ≡ bind 0 υs [] → TypedAt ws (scope_of (take n entries)) (p + 2 + n) r
       → (t : List ℕ) (C : Card) → card_of t ws ≡ Some C → (fn : Fn) → at C.fns f ≡ Some fn → (check C (bind 0 fn.params []) fn.body ≡ type_by r) × Standing t p f s fn
   body_type f p n s υs entries r e m q l g d t C read fn h =
@@ -64,7 +64,7 @@ module _ (ws : List Token) where
       let b : pieces_of t (p + 2 + n) (drop (p + 2 + n) ws) ≡ Some (expr fn.body ∷ y.rest) = rw l y.body in
       (ap (λ (Δ : Scope Ty). check C Δ fn.body) Γ ∙ given _ (p + 2 + n) r d t C read fn.body y.rest b, y)
 
-  module _ (f p n : ℕ) (s : Signature) (υs : List Ty) (entries : List (Entry Ty)) (e : Some p ≡ at (functions_in 0 ws) f) (m : OnCard ws (λ C. SameSignature (Some s) (at C.fns f))) (q : υs ≡ types_of s.parameters) (l : n ≡ length (types_of s.parameters))
+  module _ (f p n : ℕ) (s : Signature) (υs : List Ty) (entries : List (Entry Ty)) (e : Some p ≡ at (functions_in 0 ws) f) (m : OnCard ws (λ C. SameSignature (Some s) (at C.fns f))) (q : υs ≡ listed s.parameters) (l : n ≡ length (listed s.parameters))
       (g : scope_of (take (0 + length υs) entries) ≡ bind 0 υs []) where
     pub body_fault : (k : TypeFault) → TypedAt ws (scope_of (take n entries)) (p + 2 + n) (Err k) → FunctionAt ws f (Err k)
     body_fault k d t C read fn h =

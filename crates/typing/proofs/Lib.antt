@@ -1,2 +1,4 @@
 pub mod Turns
+pub mod Loops
+pub mod Along
 pub mod Bodies

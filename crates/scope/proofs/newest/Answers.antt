@@ -1,18 +1,20 @@
--- The entry below i is the newest of the first i.
-use Rattle.std.proofs.Common.{sym, ap, arith}
-use Rattle.std.proofs.lemmas.List.{take_all}
+-- The entry that is looked at is the newest of those left.
+use Rattle.std.proofs.Common.{List, ap, ◌∙◌}
 use Rattle.battery.specs.Tree.{find}
 use Rattle.scope.specs.Bound.{scope_of}
-use Rattle.scope.proofs.Backwards.{found, missed}
+use Rattle.scope.specs.declared.Entry.{Entry}
+use Rattle.scope.proofs.Backwards.{found, missed, nowhere}
 use Rattle.scope.proofs.newest.Goals as goal
 
-pub loop-i-init : goal.loop-i-init
-loop-i-init g c = sym (ap (λ es. find (scope_of es) c.args.name) (take_all _ c.args.entries.now (omega arith)))
+pub returns-then-entry-name : goal.returns-then-entry-name
+returns-then-entry-name g c =
+    let up = c.loop-entry.invariant ∙ ap (λ (es : List (Entry g.row.T.Denot)). find (scope_of es) c.args.name) c.in-Some.ensures.steps in
+    found c.args.entries.now c.args.name c.next.new.self.iter.rest.now c.in-Some.entry.now up c.if-entry-name.true
 
-pub returns-then-e-name : goal.returns-then-e-name
-returns-then-e-name g c =
-    found c.args.entries.now c.loop-i.i c.args.name c.index-entries-i.result (omega arith) c.loop-i.auto.i c.loop-i.invariant c.index-entries-i.is c.if-e-name.true
+pub loop-entry-preserved : goal.loop-entry-preserved
+loop-entry-preserved g c =
+    let up = c.loop-entry.invariant ∙ ap (λ (es : List (Entry g.row.T.Denot)). find (scope_of es) c.args.name) c.in-Some.ensures.steps in
+    missed c.args.entries.now c.args.name c.next.new.self.iter.rest.now c.in-Some.entry.now up c.if-entry-name.false
 
-pub loop-i-preserved : goal.loop-i-preserved
-loop-i-preserved g c =
-    missed c.args.entries.now c.loop-i.i c.args.name c.index-entries-i.result (omega arith) c.loop-i.auto.i c.loop-i.invariant c.index-entries-i.is c.if-e-name.false
+pub returns : goal.returns
+returns g c = nowhere c.args.entries.now c.args.name c.loop-entry.entry-iterator.iter.rest.now c.loop-entry.invariant c.in-None.ensures.steps.0

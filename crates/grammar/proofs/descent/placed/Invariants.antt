@@ -1,10 +1,11 @@
 -- The items so far changed nothing of what is misplaced in all.
-use Rattle.std.proofs.Common.{◌≡◌, ◌-◌, ◌≤◌, [], length, drop}
+use Rattle.std.proofs.Common.{◌≡◌, ◌-◌, ◌^◌, []}
 use Rattle.grammar.specs.Grammar.{misplaced}
+use Rattle.grammar.specs.Reading.{found_from}
 use Rattle.grammar.proofs.descent.placed.Given as goal
 
-abbrev pub invariant-loop-at : goal.invariant-loop-at
-invariant-loop-at l = (l.at ≤ length l.tokens) × (misplaced 0 [] l.tokens ≡ misplaced l.at [] (drop l.at l.tokens))
+abbrev pub invariant-loop-cursor : goal.invariant-loop-cursor
+invariant-loop-cursor l = misplaced 0 [] l.tokens ≡ found_from l.cursor []
 
-abbrev pub decreases-loop-at : goal.decreases-loop-at
-decreases-loop-at l = length l.tokens - l.at
+abbrev pub decreases-loop-cursor : goal.decreases-loop-cursor
+decreases-loop-cursor l = 2 ^ 64 - l.cursor.at

@@ -1,29 +1,29 @@
-use Rattle.std.proofs.Common.{None, sym, refl, rules}
+use Rattle.std.proofs.Common.{None, refl, rules}
 use Rattle.numbering.specs.Views.{tokens_in}
 use Rattle.table.specs.Sorts.{field_count}
 use Rattle.rules.proofs.Backs.{stands}
 use Rattle.rules.proofs.Declares.{no_case, lost_case, case_there}
 use Rattle.rules.proofs.declared.case_types.Goals as goal
 
+pub returns-in_err-place : goal.returns-in_err-place
+returns-in_err-place c = rw c.from_residual.ensures (no_case (tokens_in c.args.card.now) c.args.of c.args.case c.in_err-place.ensures)
+
+pub returns-in_err-fields : goal.returns-in_err-fields
+returns-in_err-fields c =
+    rw c.from_residual-in_err-fields.ensures (lost_case (tokens_in c.args.card.now) c.args.of c.args.case c.in_ok-place.place None c.in_ok-place.ensures c.in_err-fields.ensures)
+
 pub overflow_add-place : goal.overflow_add-place
 overflow_add-place c =
-    let h = stands (tokens_in c.args.card.now) c.in-Some.place field_count _ refl c.in-Some-fields_at.ensures in
+    let h = stands (tokens_in c.args.card.now) c.in_ok-place.place field_count _ refl c.in_ok-fields.ensures in
     let l = c.args.card.now.few in
     search rules
 
-pub more_types-requires : goal.more_types-requires
-more_types-requires c =
-    let h = stands (tokens_in c.args.card.now) c.in-Some.place field_count _ refl c.in-Some-fields_at.ensures in
+pub types_at-requires : goal.types_at-requires
+types_at-requires c =
+    let h = stands (tokens_in c.args.card.now) c.in_ok-place.place field_count _ refl c.in_ok-fields.ensures in
     let l = c.args.card.now.few in
     search rules
 
-pub returns-in-Some-fields_at : goal.returns-in-Some-fields_at
-returns-in-Some-fields_at c =
-    case_there (tokens_in c.args.card.now) c.args.of c.args.case c.in-Some.place c.in-Some-fields_at.fields c.new.result c.more_types.result c.args.card.now.limited (sym c.in-Some.ensures)
-    c.in-Some-fields_at.ensures c.new.ensures c.more_types.ensures
-
-pub returns-in-None-fields_at : goal.returns-in-None-fields_at
-returns-in-None-fields_at c = lost_case (tokens_in c.args.card.now) c.args.of c.args.case c.in-Some.place None (sym c.in-Some.ensures) c.in-None-fields_at.ensures
-
-pub returns-in-None : goal.returns-in-None
-returns-in-None c = no_case (tokens_in c.args.card.now) c.args.of c.args.case (sym c.in-None.ensures)
+pub returns : goal.returns
+returns c =
+    case_there (tokens_in c.args.card.now) c.args.of c.args.case c.in_ok-place.place c.in_ok-fields.fields c.types_at.result c.args.card.now.limited c.in_ok-place.ensures c.in_ok-fields.ensures c.types_at.ensures
