@@ -17,18 +17,20 @@ use Rattle.program.specs.Views.{text_in, tokens_in, ends_in}
 use Rattle.frames.specs.declared.data.Wait.{Wait}
 use Rattle.frames.specs.declared.data.Move.{Move}
 use Rattle.frames.specs.declared.data.Move.TheVariants.{Gives, Stops, Goes}
-use Rattle.frames.specs.Trees.{head_at, Start, expr, setup, after_it}
+use Rattle.frames.specs.Trees.{expr, setup, after_it}
 use Rattle.frames.specs.Stacks.{vals}
 use Rattle.frames.specs.Views.{judgement, move, Kept, Leads, Did, scope}
 use Rattle.frames.proofs.Layers.{standing, head_is}
+use Rattle.constructs.specs.Rules.{RuleOf}
 use Rattle.constructs.specs.Values.{two_numbers}
 
--- the tree at a place where a head stands, and its parts
-pub node_of : (k : Program) (i : ℕ) (h : Head) → Start k i → head_at k i ≡ Some h → Node (text_in k) (tokens_in k) (ends_in k) i h
-node_of k i h s e =
-    let p = sym (head_is k i s) ∙ e in
-    let q : (standing k i s).head ≡ h = cc in
-    subst (Node (text_in k) (tokens_in k) (ends_in k) i) q (standing k i s).node
+-- the tree of a rule's expression, and its parts
+pub node_of : {k : Program} {w : Wait} {h : Head} → RuleOf k w h → Node (text_in k) (tokens_in k) (ends_in k) w.job.at h
+node_of {k} {w} {h} r =
+    let s = r.ready.start in
+    let p = sym (head_is k w.job.at s) ∙ r.head in
+    let q : (standing k w.job.at s).head ≡ h = cc in
+    subst (Node (text_in k) (tokens_in k) (ends_in k) w.job.at) q (standing k w.job.at s).node
 
 -- the place behind the first part, as code has it
 pub behind_first : (k : Program) (i p : ℕ) → p ≡ after_it k (i + 1) → p ≡ after_it k (suc i)

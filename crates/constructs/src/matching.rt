@@ -3,15 +3,16 @@ ghost use Rattle.table.specs.declared.token.Head.TheVariants.{Match as MATCH};
 ghost use Rattle.battery.specs.Rules.{arm_of};
 ghost use Rattle.program.specs.Stands.{arms_at, ArmsStand};
 ghost use Rattle.program.specs.Views.{tokens_in, text_in};
-ghost use Rattle.frames.specs.Trees.{head_at};
-ghost use Rattle.frames.specs.Views.{Ready, Did};
+ghost use Rattle.frames.specs.Views.{Did};
+ghost use Rattle.constructs.specs.Rules.{RuleOf};
 ghost use Rattle.constructs.specs.Armed.{OfArm};
 
 use crate::binding::bind_above;
 use crate::lookups::enum_at;
 use crate::values::only;
+use crate::whole::Whole;
 use battery::Value;
-use frames::{Job, Judgement, Move, Wait};
+use frames::{Job, Judgement, Move};
 use program::Program;
 use scope::Entry;
 use stores::Store;
@@ -33,29 +34,35 @@ fn arm_for(program: &Program, from: u16, case: u8) -> Option<(Arm, u16)>
     None
 }
 
-// MATCH: the arm of the value's case, with its fields bound.
-pub(crate) fn matching<S: Store>(
-    program: &Program,
-    entries: &mut [Entry<Value>; 1028],
-    w: &Wait,
-    store: &S,
-) -> Option<Move>
-    requires ready { Ready program.now w.now }
-    requires head { head_at program.now w.now.job.at ≡ Some MATCH }
-    ensures { (most : ℕ) → Did program.now most w.now entries.old entries.new (S.Store.cells store.now) (S.Store.cells store.now) result }
-{
-    let v = only(&w.values)?;
-    let value = enum_at(store, v)?;
-    let from = program.end(w.job.at + 1);
-    let (arm, part) = arm_for(program, from, value.case)?;
-    let fields = value.fields.as_slice();
-    if fields.len() != arm.names as usize {
-        return None;
+impl Whole<'_> {
+    // MATCH: the arm of the value's case, with its fields bound.
+    pub(crate) fn matching<S: Store>(
+        &self,
+        entries: &mut [Entry<Value>; 1028],
+        store: &S,
+    ) -> Option<Move>
+        requires { RuleOf self.now.program.now self.now.wait.now MATCH }
+        ensures { (most : ℕ) → Did self.now.program.now most self.now.wait.now entries.old entries.new (S.Store.cells store.now) (S.Store.cells store.now) result }
+    {
+        let v = only(&self.wait.values)?;
+        let value = enum_at(store, v)?;
+        let from = self.program.end(self.wait.job.at + 1);
+        let (arm, part) = arm_for(self.program, from, value.case)?;
+        let fields = value.fields.as_slice();
+        if fields.len() != arm.names as usize {
+            return None;
+        }
+        bind_above(
+            entries,
+            self.wait.job.base,
+            self.wait.job.height,
+            arm.first,
+            fields,
+        );
+        Some(Move::Goes(Judgement::Of(Job {
+            at: part,
+            base: self.wait.job.base,
+            height: self.wait.job.height + fields.len() as u16,
+        })))
     }
-    bind_above(entries, w.job.base, w.job.height, arm.first, fields);
-    Some(Move::Goes(Judgement::Of(Job {
-        at: part,
-        base: w.job.base,
-        height: w.job.height + fields.len() as u16,
-    })))
 }
