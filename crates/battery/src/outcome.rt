@@ -1,7 +1,7 @@
 use crate::Value;
 
 // Why a run ends without a value, and the record that the ending names. An exit has its text.
-#[derive(Clone, Copy)]
+#[derive(Clone, Copy, PartialEq, Debug)]
 pub enum Stop {
     Exit(u16, Value),
     ZeroDivisor(u16),

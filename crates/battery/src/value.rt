@@ -3,7 +3,7 @@ ghost use Rattle.battery.specs.Same.{same_value, same_value_laws};
 
 // What an expression comes to. Texts and enum values lie in cells of the store: a value of theirs
 // is the place of one.
-#[derive(Clone, Copy, Default)]
+#[derive(Clone, Copy, Default, Debug)]
 pub enum Value {
     #[default]
     Unit,

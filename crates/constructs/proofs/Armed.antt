@@ -17,24 +17,23 @@ use Rattle.program.specs.Views.{tokens_in, text_in, ends_in}
 use Rattle.program.specs.declared.program.Program.{Program}
 use Rattle.program.proofs.Stands.{headed, first_arm}
 use Rattle.frames.specs.declared.data.Wait.{Wait}
-use Rattle.frames.specs.declared.data.Move.TheVariants.{Goes, Stuck}
+use Rattle.frames.specs.declared.data.Judgement.TheVariants.{Of}
+use Rattle.frames.specs.declared.data.Move.TheVariants.{Goes}
 use Rattle.frames.specs.Trees.{expr, setup}
-use Rattle.frames.specs.Views.{window, scope, vals, Agree, Did}
-use Rattle.constructs.specs.declared.matching.Found.{Found}
+use Rattle.frames.specs.Stacks.{vals}
+use Rattle.frames.specs.Views.{window, scope, Agree, Did}
 use Rattle.constructs.specs.Armed.{OfArm}
-use Rattle.constructs.proofs.Celled.{bound, unbound, stuck_did}
+use Rattle.constructs.proofs.Moves.{bound}
 
 arm_token : (o : Option Token) (a : Arm) → Some a ≡ arm_in o → o ≡ Some (ARM a.names a.first a.case)
-arm_token None a e = let z : ◌≡◌ {A = ℕ} 0 1 = cc in absurd (omega arith)
-arm_token (Some CLOSE) a e = let z : ◌≡◌ {A = ℕ} 0 1 = cc in absurd (omega arith)
-arm_token (Some (ENUM k)) a e = let z : ◌≡◌ {A = ℕ} 0 1 = cc in absurd (omega arith)
-arm_token (Some (CASE n k)) a e = let z : ◌≡◌ {A = ℕ} 0 1 = cc in absurd (omega arith)
-arm_token (Some (DEF n k)) a e = let z : ◌≡◌ {A = ℕ} 0 1 = cc in absurd (omega arith)
-arm_token (Some (TYPE τ)) a e = let z : ◌≡◌ {A = ℕ} 0 1 = cc in absurd (omega arith)
-arm_token (Some (ARM n x c)) a e =
-    let r : a ≡ record { names = n; first = x; case = c } = cc in
-    let p = ap (λ (y : Arm). y.names) r in let q = ap (λ (y : Arm). y.first) r in let s = ap (λ (y : Arm). y.case) r in cc
-arm_token (Some (EXPR h)) a e = let z : ◌≡◌ {A = ℕ} 0 1 = cc in absurd (omega arith)
+arm_token None a e = cc
+arm_token (Some CLOSE) a e = cc
+arm_token (Some (ENUM k)) a e = cc
+arm_token (Some (CASE n k)) a e = cc
+arm_token (Some (DEF n k)) a e = cc
+arm_token (Some (TYPE τ)) a e = cc
+arm_token (Some (ARM n x c)) a e = cc
+arm_token (Some (EXPR h)) a e = cc
 
 module _ (k : Program) where
   abbrev behind : ℕ → ℕ
@@ -64,7 +63,7 @@ module _ (k : Program) where
   armed i a s e = armed_by i a (first_arm (text_in k) (tokens_in k) (ends_in k) k.ended i s) (arm_token (at (tokens_in k) i) a e)
 
   unarmed_by : (i : ℕ) → FirstArm (text_in k) (tokens_in k) (ends_in k) i → None ≡ arm_in (at (tokens_in k) i) → arms_at (text_in k) (tokens_in k) i ≡ no_arm
-  unarmed_by i (an_arm s l b m q) e = let d = rw s at e in let z : ◌≡◌ {A = ℕ} 0 1 = cc in absurd (omega arith)
+  unarmed_by i (an_arm s l b m q) e = let d = rw s at e in cc
   unarmed_by i (no_more h q) e = q
 
   pub unarmed : (i : ℕ) → ArmsStand (text_in k) (tokens_in k) i → None ≡ arm_in (at (tokens_in k) i) → arms_at (text_in k) (tokens_in k) i ≡ no_arm
@@ -78,52 +77,52 @@ module _ (k : Program) where
   arm_miss i c a h e = let q = h.is in let t = ne_eqb c a.case e in rw (q, t)
 
   pub arm_found : (i : ℕ) (a : Arm) (o : Option (ℕ × ℕ × Expr)) → Armed i a → o ≡ Some (a.names, a.first, tree_at (text_in k) (tokens_in k) (suc i))
-      → OfArm (text_in k) (tokens_in k) o (Some (record { names = a.names; first = a.first; part = i + 1 }))
+      → OfArm (text_in k) (tokens_in k) o (Some (a, i + 1))
   arm_found i a o h e = let b = h.begins in rw (e, add-one) (refl, refl, b, refl)
 
   -- behind an arm, or a match's first part
   pub next_arms : (i m : ℕ) → m ≡ behind (i + 1) → ArmsStand (text_in k) (tokens_in k) (behind (suc i)) → (m ≡ behind (suc i)) × ArmsStand (text_in k) (tokens_in k) m
   next_arms i m e s = let q : m ≡ behind (suc i) = e ∙ ap behind (add-one i) in (q, subst (ArmsStand (text_in k) (tokens_in k)) (sym q) s)
 
-module _ (k : Program) (w : Wait) (cs : List Cell) (x : Expr) (ms : Arms) (o : expr k w.job.at ≡ Match w.job.at x ms) where
-  pub match_none : (es : List (Entry Value)) → None ≡ one (vals w) → (most : ℕ) → Did k most w es es cs cs Stuck
-  match_none es e most = stuck_did k w most es cs (rw (o, ← e))
+-- a match, by the arm of its value's case
+module _ (k : Program) (w : Wait) (cs : List Cell) (x : Expr) (ms : Arms) (o : expr k w.job.at ≡ Match w.job.at x ms)
+    (v : Value) (m : ℕ × ℕ × List Value) (e : Some v ≡ one (vals w)) (f : Some m ≡ (of_cell cs v ▸ of_enum)) where
+  none_by : (es : List (Entry Value)) (a : Option (ℕ × ℕ × Expr)) → arm_of ms m.1 ≡ a → OfArm (text_in k) (tokens_in k) a None
+      → (most : ℕ) → after (setup k most) (scope es w.job) cs (expr k w.job.at) (vals w) ≡ None
+  none_by es None q h most = rw (o, ← e) (bound (of_cell cs v) of_enum m _ f ∙ rw q)
+  none_by es (Some a) q h most = absurd h
 
-  pub match_no_enum : (es : List (Entry Value)) (v : Value) → Some v ≡ one (vals w) → None ≡ (of_cell cs v ▸ of_enum) → (most : ℕ) → Did k most w es es cs cs Stuck
-  match_no_enum es v e f most = stuck_did k w most es cs (rw (o, ← e) (unbound (of_cell cs v) of_enum _ f))
+  -- no arm
+  pub match_none : (es : List (Entry Value)) → OfArm (text_in k) (tokens_in k) (arm_of ms m.1) None
+      → (most : ℕ) → after (setup k most) (scope es w.job) cs (expr k w.job.at) (vals w) ≡ None
+  match_none es h = none_by es (arm_of ms m.1) refl h
 
-  module _ (v : Value) (m : ℕ × ℕ × List Value) (e : Some v ≡ one (vals w)) (f : Some m ≡ (of_cell cs v ▸ of_enum)) where
-    not_by : (es : List (Entry Value)) (a : Option (ℕ × ℕ × Expr)) → arm_of ms m.1 ≡ a → OfArm (text_in k) (tokens_in k) a None → (most : ℕ) → Did k most w es es cs cs Stuck
-    not_by es None q h most = stuck_did k w most es cs (rw (o, ← e) (bound (of_cell cs v) of_enum m _ f ∙ rw q))
-    not_by es (Some a) q h most = absurd h
+  unlike_by : (es : List (Entry Value)) (d : Arm × ℕ) (a : Option (ℕ × ℕ × Expr)) → arm_of ms m.1 ≡ a → OfArm (text_in k) (tokens_in k) a (Some d) → ¬ (length m.2 ≡ d.0.names)
+      → (most : ℕ) → after (setup k most) (scope es w.job) cs (expr k w.job.at) (vals w) ≡ None
+  unlike_by es d None q h n most = absurd h
+  unlike_by es d (Some a) q h n most =
+      let t = ne_eqb (length m.2) a.0 (λ y. n (y ∙ sym h.0)) in
+      rw (o, ← e) (bound (of_cell cs v) of_enum m _ f ∙ rw (q, t))
 
-    pub match_no_arm : (es : List (Entry Value)) → OfArm (text_in k) (tokens_in k) (arm_of ms m.1) None → (most : ℕ) → Did k most w es es cs cs Stuck
-    match_no_arm es h = not_by es (arm_of ms m.1) refl h
+  -- another number of fields
+  pub match_not : (es : List (Entry Value)) (d : Arm × ℕ) → OfArm (text_in k) (tokens_in k) (arm_of ms m.1) (Some d) → ¬ (length m.2 ≡ d.0.names)
+      → (most : ℕ) → after (setup k most) (scope es w.job) cs (expr k w.job.at) (vals w) ≡ None
+  match_not es d h = unlike_by es d (arm_of ms m.1) refl h
 
-    unlike_by : (es : List (Entry Value)) (d : Found) (a : Option (ℕ × ℕ × Expr)) → arm_of ms m.1 ≡ a → OfArm (text_in k) (tokens_in k) a (Some d) → ¬ (length m.2 ≡ d.names)
-        → (most : ℕ) → Did k most w es es cs cs Stuck
-    unlike_by es d None q h n most = absurd h
-    unlike_by es d (Some a) q h n most =
-        let t = ne_eqb (length m.2) a.0 (λ y. n (y ∙ sym h.0)) in
-        stuck_did k w most es cs (rw (o, ← e) (bound (of_cell cs v) of_enum m _ f ∙ rw (q, t)))
+  did_by : (es es' : List (Entry Value)) (d : Arm × ℕ) (n : ℕ) (a : Option (ℕ × ℕ × Expr)) → arm_of ms m.1 ≡ a → OfArm (text_in k) (tokens_in k) a (Some d) → length m.2 ≡ d.0.names
+      → w.job.base ≤ w.job.height → n ≡ w.job.height + length m.2 → n ≤ w.job.height + 4 → Agree es es' w.job.height
+      → window es' w.job.base (w.job.height + length m.2 - w.job.base) ≡ bind d.0.first m.2 (scope es w.job)
+      → (most : ℕ) → Did k most w es es' cs cs (Some (Goes (Of (record { at = d.1; base = w.job.base; height = n }))))
+  did_by es es' d n None q h l bh i few g b most = absurd h
+  did_by es es' d n (Some a) q h l bh i few g b most =
+      let t = eq-eqb (length m.2) a.0 (l ∙ h.0) in
+      let y : after (setup k most) (scope es w.job) cs (expr k w.job.at) (vals w) ≡ Some (goes (bind a.1 m.2 (scope es w.job) ⊢ a.2)) =
+      rw (o, ← e) (bound (of_cell cs v) of_enum m _ f ∙ rw (q, t)) in
+      let p = h.1 in let r = h.3 in
+      record { does = rw (i, b, p, ← r) (sym y); kept = refl; agree = g; leads = (h.2, omega arith, omega arith, few) }
 
-    pub match_not : (es : List (Entry Value)) (d : Found) → OfArm (text_in k) (tokens_in k) (arm_of ms m.1) (Some d) → ¬ (length m.2 ≡ d.names) → (most : ℕ) → Did k most w es es cs cs Stuck
-    match_not es d h = unlike_by es d (arm_of ms m.1) refl h
-
-    did_by : (es es' : List (Entry Value)) (d : Found) (n : ℕ) (a : Option (ℕ × ℕ × Expr)) → arm_of ms m.1 ≡ a → OfArm (text_in k) (tokens_in k) a (Some d) → length m.2 ≡ d.names
-        → w.job.base ≤ w.job.height → n ≡ w.job.height + length m.2 → n ≤ w.job.height + 4 → Agree es es' w.job.height
-        → window es' w.job.base (w.job.height + length m.2 - w.job.base) ≡ bind d.first m.2 (scope es w.job)
-        → (most : ℕ) → Did k most w es es' cs cs (Goes (record { at = d.part; base = w.job.base; height = n }))
-    did_by es es' d n None q h l bh i few g b most = absurd h
-    did_by es es' d n (Some a) q h l bh i few g b most =
-        let t = eq-eqb (length m.2) a.0 (l ∙ h.0) in
-        let y : after (setup k most) (scope es w.job) cs (expr k w.job.at) (vals w) ≡ Some (goes (bind a.1 m.2 (scope es w.job) ⊢ a.2)) =
-        rw (o, ← e) (bound (of_cell cs v) of_enum m _ f ∙ rw (q, t)) in
-        let p = h.1 in let r = h.3 in
-        record { does = rw (i, b, p, ← r) (sym y); kept = refl; agree = g; leads = (h.2, omega arith, omega arith, few) }
-
-    pub match_did : (es es' : List (Entry Value)) (d : Found) (n : ℕ) → OfArm (text_in k) (tokens_in k) (arm_of ms m.1) (Some d) → length m.2 ≡ d.names
-        → w.job.base ≤ w.job.height → n ≡ w.job.height + length m.2 → n ≤ w.job.height + 4 → Agree es es' w.job.height
-        → window es' w.job.base (w.job.height + length m.2 - w.job.base) ≡ bind d.first m.2 (scope es w.job)
-        → (most : ℕ) → Did k most w es es' cs cs (Goes (record { at = d.part; base = w.job.base; height = n }))
-    match_did es es' d n h = did_by es es' d n (arm_of ms m.1) refl h
+  pub match_did : (es es' : List (Entry Value)) (d : Arm × ℕ) (n : ℕ) → OfArm (text_in k) (tokens_in k) (arm_of ms m.1) (Some d) → length m.2 ≡ d.0.names
+      → w.job.base ≤ w.job.height → n ≡ w.job.height + length m.2 → n ≤ w.job.height + 4 → Agree es es' w.job.height
+      → window es' w.job.base (w.job.height + length m.2 - w.job.base) ≡ bind d.0.first m.2 (scope es w.job)
+      → (most : ℕ) → Did k most w es es' cs cs (Some (Goes (Of (record { at = d.1; base = w.job.base; height = n }))))
+  match_did es es' d n h = did_by es es' d n (arm_of ms m.1) refl h

@@ -1,3 +1,4 @@
-pub mod Constants
 pub mod Celled
 pub mod Armed
+pub mod Values
+pub mod Rules

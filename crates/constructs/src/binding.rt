@@ -13,11 +13,14 @@ pub(crate) fn bind_above(
     first: u16,
     values: &[Value],
 )
-    requires { (base ≤ height) × ((length values.now ≤ 4) × (height + length values.now ≤ 1028)) }
+    requires based { base ≤ height }
+    requires few { length values.now ≤ 4 }
+    requires room { height + length values.now ≤ 1028 }
     ensures agree { Agree entries.old entries.new height }
     ensures scope { window entries.new base (height + length values.now - base) ≡ bind first values.now (window entries.old base (height - base)) }
 {
     let count = (height - base) as usize;
     let part = &mut entries[base as usize..];
-    bind_all(part, count, first, values);
+    // There is room.
+    let _ = bind_all(part, count, first, values);
 }

@@ -1,14 +1,9 @@
 ghost use Rattle.std.specs.Prelude.{◌≡◌, Some};
 ghost use Rattle.table.specs.declared.token.Head.TheVariants.{Leaf as LEAF, Pair as PAIR};
-ghost use Rattle.frames.specs.Trees.{head_at};
 ghost use Rattle.frames.specs.Views.{Did, Ready};
+ghost use Rattle.constructs.specs.Rules.{RuleOf};
 
-use crate::call::call;
-use crate::leaf::{constant, local};
-use crate::make::{exit, make};
-use crate::matching::matching;
-use crate::plain::{branch, calc, equal, less, sequence, val};
-use crate::text::{concat, string};
+use crate::whole::Whole;
 use battery::Value;
 use frames::{Move, Wait};
 use program::Program;
@@ -16,42 +11,44 @@ use scope::Entry;
 use stores::Store;
 use table::{Head, Leaf, Many, Pair};
 
-fn leaf_rule<S: Store>(
-    program: &Program,
-    entries: &[Entry<Value>; 1028],
-    w: &Wait,
-    store: &mut S,
-    leaf: Leaf,
-) -> Move
-    requires { (Ready program.now w.now) × (head_at program.now w.now.job.at ≡ Some (LEAF leaf)) }
-    ensures most { S.Store.limit store.new ≡ S.Store.limit store.old }
-    ensures does { Did program.now (S.Store.limit store.old) w.now entries.now entries.now (S.Store.cells store.old) (S.Store.cells store.new) result }
-{
-    match leaf {
-        Leaf::Text { place, length } => string(program, w, place, length, store),
-        Leaf::Local(name) => local(program, entries, w, name),
-        Leaf::Unit | Leaf::Number(_) | Leaf::Boolean(_) => constant(program, w, leaf),
+impl Whole<'_> {
+    fn leaf_rule<S: Store>(
+        &self,
+        entries: &[Entry<Value>; 1028],
+        store: &mut S,
+        leaf: Leaf,
+    ) -> Option<Move>
+        requires { RuleOf self.now.program.now self.now.wait.now (LEAF leaf) }
+        ensures most { S.Store.limit store.new ≡ S.Store.limit store.old }
+        ensures does { Did self.now.program.now (S.Store.limit store.old) self.now.wait.now entries.now entries.now (S.Store.cells store.old) (S.Store.cells store.new) result }
+    {
+        match leaf {
+            Leaf::Unit => Some(Move::Gives(Value::Unit)),
+            Leaf::Number(n) => Some(Move::Gives(Value::Number(n))),
+            Leaf::Boolean(b) => Some(Move::Gives(Value::Boolean(b))),
+            Leaf::Text { place, length } => self.string(place, length, store),
+            Leaf::Local(name) => self.local(entries, name),
+        }
     }
-}
 
-fn pair_rule<S: Store>(
-    program: &Program,
-    entries: &mut [Entry<Value>; 1028],
-    w: &Wait,
-    store: &mut S,
-    pair: Pair,
-) -> Move
-    requires { (Ready program.now w.now) × (head_at program.now w.now.job.at ≡ Some (PAIR pair)) }
-    ensures most { S.Store.limit store.new ≡ S.Store.limit store.old }
-    ensures does { Did program.now (S.Store.limit store.old) w.now entries.old entries.new (S.Store.cells store.old) (S.Store.cells store.new) result }
-{
-    match pair {
-        Pair::Calc(op) => calc(program, w, op),
-        Pair::Concat => concat(program, w, store),
-        Pair::Eq => equal(program, w),
-        Pair::Lt => less(program, w),
-        Pair::Seq => sequence(program, w),
-        Pair::Val(name) => val(program, entries, w, name),
+    fn pair_rule<S: Store>(
+        &self,
+        entries: &mut [Entry<Value>; 1028],
+        store: &mut S,
+        pair: Pair,
+    ) -> Option<Move>
+        requires { RuleOf self.now.program.now self.now.wait.now (PAIR pair) }
+        ensures most { S.Store.limit store.new ≡ S.Store.limit store.old }
+        ensures does { Did self.now.program.now (S.Store.limit store.old) self.now.wait.now entries.old entries.new (S.Store.cells store.old) (S.Store.cells store.new) result }
+    {
+        match pair {
+            Pair::Calc(op) => self.calc(op),
+            Pair::Concat => self.concat(store),
+            Pair::Eq => self.equal(),
+            Pair::Lt => self.less(),
+            Pair::Seq => self.sequence(),
+            Pair::Val(name) => self.val(entries, name),
+        }
     }
 }
 
@@ -59,21 +56,21 @@ fn pair_rule<S: Store>(
 pub fn rule<S: Store>(
     program: &Program,
     entries: &mut [Entry<Value>; 1028],
-    w: &Wait,
+    wait: &Wait,
     store: &mut S,
-) -> Move
-    requires { Ready program.now w.now }
+) -> Option<Move>
+    requires { Ready program.now wait.now }
     ensures most { S.Store.limit store.new ≡ S.Store.limit store.old }
-    ensures does { Did program.now (S.Store.limit store.old) w.now entries.old entries.new (S.Store.cells store.old) (S.Store.cells store.new) result }
+    ensures does { Did program.now (S.Store.limit store.old) wait.now entries.old entries.new (S.Store.cells store.old) (S.Store.cells store.new) result }
 {
-    match program.head(w.job.at) {
-        Some(Head::Leaf(leaf)) => leaf_rule(program, entries, w, store, leaf),
-        Some(Head::Pair(pair)) => pair_rule(program, entries, w, store, pair),
-        Some(Head::If) => branch(program, w),
-        Some(Head::Match) => matching(program, entries, w, store),
-        Some(Head::Exit) => exit(program, w, store),
-        Some(Head::Many(_, Many::Call(f))) => call(program, entries, w, f),
-        Some(Head::Many(_, Many::Make { of, case })) => make(program, w, store, of, case),
-        None => Move::Stuck,
+    let whole = Whole { program, wait };
+    match program.head(wait.job.at)? {
+        Head::Leaf(leaf) => whole.leaf_rule(entries, store, leaf),
+        Head::Pair(pair) => whole.pair_rule(entries, store, pair),
+        Head::If => whole.branch(),
+        Head::Match => whole.matching(entries, store),
+        Head::Exit => whole.exit(store),
+        Head::Many(_, Many::Call(f)) => whole.call(entries, f),
+        Head::Many(_, Many::Make { of, case }) => Some(whole.make(store, of, case)),
     }
 }

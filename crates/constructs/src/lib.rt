@@ -13,6 +13,7 @@ mod numbers;
 mod plain;
 mod text;
 mod values;
+mod whole;
 
 pub use comparison::compare;
 pub use dispatch::rule;

@@ -18,8 +18,8 @@ use stores::Store;
 // Puts a cell for the record `at`: its place, or the end of the run where the store is full.
 pub(crate) fn placed<S: Store>(store: &mut S, at: u16, cell: Cell) -> Move
     ensures most { S.Store.limit store.new ≡ S.Store.limit store.old }
-    ensures does { (k : Program) (es : List (Entry Val)) → move k es (S.Store.cells store.new) result ≡ Some (putting at (append (S.Store.limit store.old) (S.Store.cells store.old) (meaning cell))) }
-    ensures kept { Kept (S.Store.cells store.old) (S.Store.cells store.new) result }
+    ensures does { (k : Program) (es : List (Entry Val)) → move k es (S.Store.cells store.new) (Some result) ≡ Some (putting at (append (S.Store.limit store.old) (S.Store.cells store.old) (meaning cell))) }
+    ensures kept { Kept (S.Store.cells store.old) (S.Store.cells store.new) (Some result) }
 {
     match store.put(cell) {
         Some(i) => Move::Gives(Value::Place(i)),
@@ -27,41 +27,13 @@ pub(crate) fn placed<S: Store>(store: &mut S, at: u16, cell: Cell) -> Move
     }
 }
 
-// The text that a cell holds.
-fn text_in(cell: Option<Cell>) -> Option<Text>
-    ensures { option_map text_of result ≡ (option_map meaning cell ▸ of_text) }
-{
-    let Some(held) = cell else {
-        return None;
-    };
-    match held {
-        Cell::Text(text) => Some(text),
-        Cell::Enum(_) => None,
-    }
-}
-
-// The enum value that a cell holds.
-fn enum_in(cell: Option<Cell>) -> Option<EnumValue>
-    ensures { option_map enum_of result ≡ (option_map meaning cell ▸ of_enum) }
-{
-    let Some(held) = cell else {
-        return None;
-    };
-    match held {
-        Cell::Text(_) => None,
-        Cell::Enum(value) => Some(value),
-    }
-}
-
 // The cell that a value is the place of.
-pub(crate) fn cell_at<S: Store>(store: &S, v: Value) -> Option<Cell>
+fn cell_at<S: Store>(store: &S, v: Value) -> Option<Cell>
     ensures { option_map meaning result ≡ of_cell (S.Store.cells store.now) v }
 {
     match v {
-        Value::Unit => None,
-        Value::Number(_) => None,
-        Value::Boolean(_) => None,
         Value::Place(i) => store.get(i),
+        _ => None,
     }
 }
 
@@ -69,12 +41,18 @@ pub(crate) fn cell_at<S: Store>(store: &S, v: Value) -> Option<Cell>
 pub(crate) fn text_at<S: Store>(store: &S, v: Value) -> Option<Text>
     ensures { option_map text_of result ≡ (of_cell (S.Store.cells store.now) v ▸ of_text) }
 {
-    text_in(cell_at(store, v))
+    match cell_at(store, v)? {
+        Cell::Text(text) => Some(text),
+        Cell::Enum(_) => None,
+    }
 }
 
 // The enum value at a value.
 pub(crate) fn enum_at<S: Store>(store: &S, v: Value) -> Option<EnumValue>
     ensures { option_map enum_of result ≡ (of_cell (S.Store.cells store.now) v ▸ of_enum) }
 {
-    enum_in(cell_at(store, v))
+    match cell_at(store, v)? {
+        Cell::Enum(value) => Some(value),
+        Cell::Text(_) => None,
+    }
 }

@@ -2,118 +2,92 @@ ghost use Rattle.std.specs.Prelude.{◌≡◌, ℕ, List, Some};
 ghost use Rattle.battery.specs.Cell.{Cell};
 ghost use Rattle.table.specs.declared.token.Head.TheVariants.{Pair as PAIR, If as IF};
 ghost use Rattle.table.specs.declared.token.Pair.TheVariants.{Calc as CALC, Eq as EQ, Lt as LT, Seq as SEQ, Val as VAL};
-ghost use Rattle.frames.specs.Trees.{head_at};
-ghost use Rattle.frames.specs.Views.{Ready, Still, Did};
+ghost use Rattle.frames.specs.Views.{Still, Did};
+ghost use Rattle.constructs.specs.Rules.{RuleOf};
 
 use crate::binding::bind_above;
 use crate::numbers::calculated;
-use crate::values::{boolean, both, number, only};
+use crate::values::{boolean, both, both_numbers, only};
+use crate::whole::Whole;
 use battery::{Arith, Value};
-use frames::{Job, Move, Pair, Wait};
-use program::Program;
+use frames::{Job, Judgement, Move, Pair};
 use scope::Entry;
 
-// CALC: a number of two numbers.
-pub(crate) fn calc(program: &Program, w: &Wait, op: Arith) -> Move
-    requires { (Ready program.now w.now) × (head_at program.now w.now.job.at ≡ Some (PAIR (CALC op))) }
-    ensures { Still program.now w.now result }
-{
-    let Some((a, b)) = both(w) else {
-        return Move::Stuck;
-    };
-    let Some(m) = number(a) else {
-        return Move::Stuck;
-    };
-    let Some(n) = number(b) else {
-        return Move::Stuck;
-    };
-    calculated(w.job.at, op, m, n)
-}
+impl Whole<'_> {
+    // CALC: a number of two numbers.
+    pub(crate) fn calc(&self, op: Arith) -> Option<Move>
+        requires { RuleOf self.now.program.now self.now.wait.now (PAIR (CALC op)) }
+        ensures { Still self.now.program.now self.now.wait.now result }
+    {
+        let (m, n) = both_numbers(&self.wait.values)?;
+        Some(calculated(self.wait.job.at, op, m, n))
+    }
 
-// LT: whether the first of two numbers is less.
-pub(crate) fn less(program: &Program, w: &Wait) -> Move
-    requires { (Ready program.now w.now) × (head_at program.now w.now.job.at ≡ Some (PAIR LT)) }
-    ensures { Still program.now w.now result }
-{
-    let Some((a, b)) = both(w) else {
-        return Move::Stuck;
-    };
-    let Some(m) = number(a) else {
-        return Move::Stuck;
-    };
-    let Some(n) = number(b) else {
-        return Move::Stuck;
-    };
-    Move::Gives(Value::Boolean(m < n))
-}
+    // LT: whether the first of two numbers is less.
+    pub(crate) fn less(&self) -> Option<Move>
+        requires { RuleOf self.now.program.now self.now.wait.now (PAIR LT) }
+        ensures { Still self.now.program.now self.now.wait.now result }
+    {
+        let (m, n) = both_numbers(&self.wait.values)?;
+        Some(Move::Gives(Value::Boolean(m < n)))
+    }
 
-// EQ: on to the comparison of the two values.
-pub(crate) fn equal(program: &Program, w: &Wait) -> Move
-    requires { (Ready program.now w.now) × (head_at program.now w.now.job.at ≡ Some (PAIR EQ)) }
-    ensures { Still program.now w.now result }
-{
-    let Some((one, other)) = both(w) else {
-        return Move::Stuck;
-    };
-    Move::Compares(Pair {
-        at: w.job.at,
-        one,
-        other,
-    })
-}
+    // EQ: on to the comparison of the two values.
+    pub(crate) fn equal(&self) -> Option<Move>
+        requires { RuleOf self.now.program.now self.now.wait.now (PAIR EQ) }
+        ensures { Still self.now.program.now self.now.wait.now result }
+    {
+        let (one, other) = both(&self.wait.values)?;
+        Some(Move::Goes(Judgement::Same(Pair {
+            at: self.wait.job.at,
+            one,
+            other,
+        })))
+    }
 
-// SEQ: on to the second part, whatever the first came to.
-pub(crate) fn sequence(program: &Program, w: &Wait) -> Move
-    requires { (Ready program.now w.now) × (head_at program.now w.now.job.at ≡ Some (PAIR SEQ)) }
-    ensures { Still program.now w.now result }
-{
-    let Some(_) = only(w) else {
-        return Move::Stuck;
-    };
-    Move::Goes(Job {
-        at: program.end(w.job.at + 1),
-        base: w.job.base,
-        height: w.job.height,
-    })
-}
+    // SEQ: on to the second part, whatever the first came to.
+    pub(crate) fn sequence(&self) -> Option<Move>
+        requires { RuleOf self.now.program.now self.now.wait.now (PAIR SEQ) }
+        ensures { Still self.now.program.now self.now.wait.now result }
+    {
+        only(&self.wait.values)?;
+        Some(Move::Goes(Judgement::Of(Job {
+            at: self.program.end(self.wait.job.at + 1),
+            ..self.wait.job
+        })))
+    }
 
-// IF: on to the second part, or to the third, which stands behind it.
-pub(crate) fn branch(program: &Program, w: &Wait) -> Move
-    requires { (Ready program.now w.now) × (head_at program.now w.now.job.at ≡ Some IF) }
-    ensures { Still program.now w.now result }
-{
-    let Some(v) = only(w) else {
-        return Move::Stuck;
-    };
-    let Some(yes) = boolean(v) else {
-        return Move::Stuck;
-    };
-    let first = program.end(w.job.at + 1);
-    let at = if yes { first } else { program.end(first) };
-    Move::Goes(Job {
-        at,
-        base: w.job.base,
-        height: w.job.height,
-    })
-}
+    // IF: on to the second part, or to the third, which stands behind it.
+    pub(crate) fn branch(&self) -> Option<Move>
+        requires { RuleOf self.now.program.now self.now.wait.now IF }
+        ensures { Still self.now.program.now self.now.wait.now result }
+    {
+        let yes = boolean(only(&self.wait.values)?)?;
+        let first = self.program.end(self.wait.job.at + 1);
+        let at = if yes { first } else { self.program.end(first) };
+        Some(Move::Goes(Judgement::Of(Job {
+            at,
+            ..self.wait.job
+        })))
+    }
 
-// VAL: on to the second part, with the name bound to what the first came to.
-pub(crate) fn val(
-    program: &Program,
-    entries: &mut [Entry<Value>; 1028],
-    w: &Wait,
-    name: u16,
-) -> Move
-    requires { (Ready program.now w.now) × (head_at program.now w.now.job.at ≡ Some (PAIR (VAL name))) }
-    ensures { (most : ℕ) (cs : List Cell) → Did program.now most w.now entries.old entries.new cs cs result }
-{
-    let Some(v) = only(w) else {
-        return Move::Stuck;
-    };
-    bind_above(entries, w.job.base, w.job.height, name, &[v]);
-    Move::Goes(Job {
-        at: program.end(w.job.at + 1),
-        base: w.job.base,
-        height: w.job.height + 1,
-    })
+    // VAL: on to the second part, with the name bound to what the first came to.
+    pub(crate) fn val(&self, entries: &mut [Entry<Value>; 1028], name: u16) -> Option<Move>
+        requires { RuleOf self.now.program.now self.now.wait.now (PAIR (VAL name)) }
+        ensures { (most : ℕ) (cs : List Cell) → Did self.now.program.now most self.now.wait.now entries.old entries.new cs cs result }
+    {
+        let v = only(&self.wait.values)?;
+        bind_above(
+            entries,
+            self.wait.job.base,
+            self.wait.job.height,
+            name,
+            &[v],
+        );
+        Some(Move::Goes(Judgement::Of(Job {
+            at: self.program.end(self.wait.job.at + 1),
+            base: self.wait.job.base,
+            height: self.wait.job.height + 1,
+        })))
+    }
 }

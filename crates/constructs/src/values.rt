@@ -1,37 +1,37 @@
-ghost use Rattle.std.specs.Prelude.{◌≡◌, ◌≤◌};
+ghost use Rattle.std.specs.Prelude.{◌≡◌};
 ghost use Rattle.machine.specs.Machine.{one, two, of_num, of_bool};
-ghost use Rattle.frames.specs.Views.{vals};
+ghost use Rattle.cells.specs.Meaning.{values_of};
+ghost use Rattle.constructs.specs.Values.{two_numbers};
 
 use battery::Value;
-use frames::Wait;
+use cells::Values;
 
-// The only value that a frame has.
-pub(crate) fn only(w: &Wait) -> Option<Value>
-    requires { w.now.have ≤ 4 }
-    ensures { result ≡ one (vals w.now) }
+// The only value.
+pub(crate) fn only(values: &Values) -> Option<Value>
+    ensures { result ≡ one (values_of values.now) }
 {
-    let a = w.values[0];
-    if w.have == 1 { Some(a) } else { None }
+    match values.as_slice() {
+        [v] => Some(*v),
+        _ => None,
+    }
 }
 
-// The two values that a frame has.
-pub(crate) fn both(w: &Wait) -> Option<(Value, Value)>
-    requires { w.now.have ≤ 4 }
-    ensures { result ≡ two (vals w.now) }
+// The two values.
+pub(crate) fn both(values: &Values) -> Option<(Value, Value)>
+    ensures { result ≡ two (values_of values.now) }
 {
-    let a = w.values[0];
-    let b = w.values[1];
-    if w.have == 2 { Some((a, b)) } else { None }
+    match values.as_slice() {
+        [one, other] => Some((*one, *other)),
+        _ => None,
+    }
 }
 
 pub(crate) fn number(v: Value) -> Option<i32>
     ensures { result ≡ of_num v }
 {
     match v {
-        Value::Unit => None,
         Value::Number(k) => Some(k),
-        Value::Boolean(_) => None,
-        Value::Place(_) => None,
+        _ => None,
     }
 }
 
@@ -39,9 +39,15 @@ pub(crate) fn boolean(v: Value) -> Option<bool>
     ensures { result ≡ of_bool v }
 {
     match v {
-        Value::Unit => None,
-        Value::Number(_) => None,
         Value::Boolean(b) => Some(b),
-        Value::Place(_) => None,
+        _ => None,
     }
+}
+
+// The two values, which are numbers.
+pub(crate) fn both_numbers(values: &Values) -> Option<(i32, i32)>
+    ensures { result ≡ two_numbers (values_of values.now) }
+{
+    let (one, other) = both(values)?;
+    Some((number(one)?, number(other)?))
 }

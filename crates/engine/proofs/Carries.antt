@@ -1,137 +1,107 @@
 -- One round of the newest frame, on lists.
-use Rattle.std.proofs.Common.{◌≡◌, ℕ, zero, suc, ◌+◌, ◌-◌, ◌<◌, ◌≤◌, Bool, true, false, cond, eqb, leb, List, [], ◌∷◌, length, take, drop, sym, refl, ap, ◌∙◌, subst, add-one, arith, length-set, eqb-true, le-leb, leb-false}
-use borrow.Author.Tests.{eqb-false, lt-leb}
-use Rattle.std.proofs.lemmas.List.{take_more_set, take-take, drop-take}
+use Rattle.std.proofs.Common.{◌≡◌, ℕ, zero, suc, ◌-◌, ◌<◌, ◌≤◌, Bool, true, false, cond, leb, List, [], ◌∷◌, length, drop, Some, None, Option, sym, refl, ap, ◌∙◌, subst, arith, length-append}
+use Rattle.std.proofs.lemmas.List.{drop-drop}
+use borrow.Author.Tests.{leb-false}
 use Rattle.battery.specs.declared.value.Value.{Value}
 use Rattle.battery.specs.declared.value.Value.TheVariants.{Unit as unit_v, Number as number_v, Boolean as boolean_v, Place as place_v}
-use Rattle.battery.specs.declared.outcome.Stop.{Stop}
-use Rattle.battery.specs.declared.outcome.Stop.TheVariants.{Overrun as overrun, TooDeep as too_deep}
+use Rattle.battery.specs.declared.outcome.Stop.TheVariants.{Overrun as overrun}
 use Rattle.std.specs.Prelude.{Err as stop}
-use Rattle.battery.specs.Tree.{place}
 use Rattle.battery.specs.Cell.{Cell}
-use Rattle.battery.specs.Rules.{Setup, ◌⊢◌, same}
-use Rattle.machine.specs.Machine.{passes, compares, compare, settle, State, going, ended, stuck, arrive, act, resume, begin, step, turn}
+use Rattle.cells.specs.Meaning.{values_of}
+use Rattle.battery.specs.Rules.{record_of, pairs}
+use Rattle.machine.specs.Machine.{ended, going, stuck, arrive, act, resume}
 use Rattle.scope.specs.declared.Entry.{Entry}
-use Rattle.scope.specs.Bound.{scope_of}
 use Rattle.program.specs.declared.program.Program.{Program}
-use Rattle.frames.specs.declared.data.Job.{Job}
+use Rattle.frames.specs.declared.data.Judgement.{Judgement}
+use Rattle.frames.specs.declared.data.Judgement.TheVariants.{Of, Same}
 use Rattle.frames.specs.declared.data.Wait.{Wait}
 use Rattle.frames.specs.declared.data.Frame.{Frame}
 use Rattle.frames.specs.declared.data.Frame.TheVariants.{Passes, Waits, Compares}
 use Rattle.frames.specs.declared.data.Run.{Run}
-use Rattle.frames.specs.declared.data.Pair.{Pair}
 use Rattle.frames.specs.declared.data.Pairs.{Pairs}
 use Rattle.frames.specs.declared.data.Given.{Given}
-use Rattle.frames.specs.declared.data.Verdict.{Verdict}
-use Rattle.frames.specs.declared.data.Verdict.TheVariants.{Fields}
 use Rattle.frames.specs.declared.data.Move.{Move}
-use Rattle.frames.specs.declared.data.Move.TheVariants.{Gives, Stops, Goes, Compares as PairsUp, Stuck}
+use Rattle.frames.specs.declared.data.Move.TheVariants.{Gives, Goes}
 use Rattle.frames.specs.declared.data.Stage.{Stage}
-use Rattle.frames.specs.declared.data.Stage.TheVariants.{Going, Comparing, Gave, Ended, Stuck as Halted}
-use Rattle.frames.specs.declared.data.Part.TheVariants.{Next, Whole, Compare, Equal, Nothing}
-use Rattle.frames.specs.Trees.{expr, Start, Starts, setup}
-use Rattle.frames.specs.Stacks.{held, newest, given, outcome, below, Room}
-use Rattle.frames.specs.Views.{Rounded, next_pair, paired, pairs_of, pair_arrival, verdict, handed, Handed, window, scope, frames, stage, carry, stepped, part_job, part_of, parted, JobOk, WaitOk, Ok, Carries, StageOk, Agree, move, Leads, Did, Ready, NextFits, arrival, opening}
+use Rattle.frames.specs.declared.data.Stage.TheVariants.{Going, Ended}
+use Rattle.frames.specs.declared.data.Part.TheVariants.{Next, Whole, Equal}
+use Rattle.frames.specs.Trees.{Starts, setup}
+use Rattle.frames.specs.Stacks.{held, vals, outcome, below, Took}
+use Rattle.frames.specs.Views.{Rounded, judgement, judged_for, paired, pairs_of, handed, Handed, frames, stage, carry, stepped, part_job, next_of, pair_of, past, job_or, pair_or, part_of, parted, JobOk, WaitOk, Ok, Carries, JudgementOk, StageOk, move, LeadsTo, Did, Ready, arrival}
 use Rattle.frames.proofs.Layers.{within, firsts_of_lem}
+use Rattle.engine.proofs.Levels.{length_newest, ok_weaken, frames_agree}
 
--- entries that agree below a height make the same scopes there
-pub agree_less : (es es' : List (Entry Value)) (h h' : ℕ) → h ≤ h' → Agree es es' h' → Agree es es' h
-agree_less es es' h h' l a = sym (take-take h h' es' l) ∙ ap (take h) a ∙ take-take h h' es l
+-- the pairs behind the first
+behind_pair : (xs ys : List Value) (p : Value × Value) (ps : List (Value × Value)) → pairs xs ys ≡ p ∷ ps → pairs (drop 1 xs) (drop 1 ys) ≡ ps
+behind_pair [] ys p ps e = cc
+behind_pair (x ∷ xs) [] p ps e = cc
+behind_pair (x ∷ xs) (y ∷ ys) p ps e = cc
 
-window_agree : (es es' : List (Entry Value)) (h b n : ℕ) → Agree es es' h → b + n ≤ h → window es' b n ≡ window es b n
-window_agree es es' h b n a l =
-    let q = agree_less es es' (b + n) h l a in
-    ap scope_of (sym (drop-take b n es') ∙ ap (drop b) q ∙ drop-take b n es)
-
-pub length_newest : (fs : List Frame) (n : ℕ) → length (newest fs n) ≡ n
-length_newest fs zero = refl
-length_newest fs (suc n) = ap suc (length_newest fs n)
+pairs_behind : (q : Pairs) (p : Value × Value) (ps : List (Value × Value)) → pairs_of q ≡ p ∷ ps → pairs_of (paired q) ≡ ps
+pairs_behind q p ps e =
+    let a = drop-drop 1 q.next (values_of q.ones) in
+    let b = drop-drop 1 q.next (values_of q.others) in
+    rw (← a, ← b) (behind_pair (drop q.next (values_of q.ones)) (drop q.next (values_of q.others)) p ps e)
 
 module _ (k : Program) where
-  pub ok_weaken : (l : List Frame) (h h' : ℕ) → h ≤ h' → Ok k l h → Ok k l h'
-  ok_weaken [] h h' le o = tt
-  ok_weaken (Passes ∷ l) h h' le o = ok_weaken l h h' le o
-  ok_weaken (Waits w ∷ l) h h' le o = let q = o.2 in (o.0, o.1, omega arith, o.3)
-  ok_weaken (Compares q ∷ l) h h' le o = (o.0, ok_weaken l h h' le o.1)
+  -- the record that a judgement is opened for
+  pub record_is : (es : List (Entry Value)) (l : List Frame) (j : Judgement) → JudgementOk k l j → record_of (judgement k es j) ≡ judged_for j
+  record_is es l (Of j) o = (firsts_of_lem k j.at o.0.start).here
+  record_is es l (Same p) o = refl
 
-  pub ok_room : (l : List Frame) (h : ℕ) → Ok k l h → Room l
-  ok_room [] h o = tt
-  ok_room (Passes ∷ l) h o = (tt, ok_room l h o)
-  ok_room (Waits w ∷ l) h o = let q = o.1 in (omega arith, ok_room l w.job.height o.3)
-  ok_room (Compares q ∷ l) h o = (tt, ok_room l h o.1)
-
-  scope_agree : (es es' : List (Entry Value)) (j : Job) (h : ℕ) → j.base ≤ j.height → j.height ≤ h → Agree es es' h → scope es' j ≡ scope es j
-  scope_agree es es' j h b l a = window_agree es es' h j.base (j.height - j.base) a (omega arith)
-
-  pub frames_agree : (es es' : List (Entry Value)) (l : List Frame) (h : ℕ) → Ok k l h → Agree es es' h → frames k es' l ≡ frames k es l
-  frames_agree es es' [] h o a = refl
-  frames_agree es es' (Passes ∷ l) h o a = ap (λ K. passes ∷ K) (frames_agree es es' l h o a)
-  frames_agree es es' (Waits w ∷ l) h o a =
-      let q = o.2 in
-      let b = o.0.job.based in
-      let s = scope_agree es es' w.job h b q a in
-      let r = frames_agree es es' l w.job.height o.3 (agree_less es es' w.job.height h q a) in
-      rw (s, r)
-  frames_agree es es' (Compares q ∷ l) h o a = ap (λ K. compares q.at (pairs_of q) ∷ K) (frames_agree es es' l h o.1 a)
-
-  arrives_by : (b : Bool) (es : List (Entry Value)) (l : List Frame) (u : ℕ) (cs : List Cell) (j : Job) → leb 1000000 u ≡ b → JobOk k (length l) j → Ok k l j.height
-      → (stage k es l u cs (cond b (Ended (overrun j.at)) (Going j)) ≡ cond b (ended (stop (overrun (place (expr k j.at)))) u cs) (going (scope es j ⊢ expr k j.at) (frames k es l) u cs))
-      × StageOk k l u (cond b (Ended (overrun j.at)) (Going j))
-  arrives_by true es l u cs j e o f = let p = (firsts_of_lem k j.at o.start).here in (rw p, tt)
-  arrives_by false es l u cs j e o f = (refl, (o, f, omega (arith, leb-false 1000000 u e)))
+  arrives_by : (b : Bool) (es : List (Entry Value)) (l : List Frame) (u : ℕ) (cs : List Cell) (j : Judgement) → leb 1000000 u ≡ b → JudgementOk k l j
+      → (stage k es l u cs (cond b (Ended (stop (overrun (judged_for j)))) (Going j)) ≡ cond b (ended (stop (overrun (record_of (judgement k es j)))) u cs) (going (judgement k es j) (frames k es l) u cs))
+      × StageOk k l u (cond b (Ended (stop (overrun (judged_for j)))) (Going j))
+  arrives_by true es l u cs j e o = let p = record_is es l j o in (rw p, tt)
+  arrives_by false es l u cs j e o = (refl, (o, omega (arith, leb-false 1000000 u e)))
 
   -- a judgement is to be opened
-  pub arrives : (es : List (Entry Value)) (l : List Frame) (u most : ℕ) (cs : List Cell) (j : Job) → JobOk k (length l) j → Ok k l j.height
-      → (stage k es l u cs (arrival u j) ≡ arrive (setup k most) (scope es j ⊢ expr k j.at) (frames k es l) u cs) × StageOk k l u (arrival u j)
-  arrives es l u most cs j o f = arrives_by (leb 1000000 u) es l u cs j refl o f
+  arrives : (es : List (Entry Value)) (l : List Frame) (u most : ℕ) (cs : List Cell) (j : Judgement) → JudgementOk k l j
+      → (stage k es l u cs (arrival u j) ≡ arrive (setup k most) (judgement k es j) (frames k es l) u cs) × StageOk k l u (arrival u j)
+  arrives es l u most cs j o = arrives_by (leb 1000000 u) es l u cs j refl o
 
-  -- the next part
-  next_waits : (es : List (Entry Value)) (l : List Frame) (w : Wait) (u most n : ℕ) (cs : List Cell) → w.left ≡ suc n → WaitOk k (length l) w → Ok k l w.job.height
-      → (stage k es (Waits (stepped k w) ∷ l) u cs (arrival u (part_job w)) ≡ carry k (setup k most) es (Waits w ∷ l) u cs) × StageOk k (Waits (stepped k w) ∷ l) u (arrival u (part_job w))
-  next_waits es l w u most n cs e o f =
-      let m : w.left - 1 ≡ n = omega arith in
-      let jo = o.job in
-      let lo = jo.low in let fw = o.few in let ba = jo.based in
-      let ps = subst (λ x. Starts k x w.next) e o.parts in
-      let job : JobOk k (suc (length l)) (part_job w) = record { start = ps.0; based = ba; low = omega arith } in
-      let ok : WaitOk k (length l) (stepped k w) = record { job = jo; parts = rw m ps.1; few = omega arith; whole = o.whole } in
-      let a = arrives es (Waits (stepped k w) ∷ l) u most cs (part_job w) job (ok, omega arith, omega arith, f) in
-      (a.0 ∙ rw (m, e), a.1)
+  -- the next part of a frame that waits, and of one that compares
+  module _ (es : List (Entry Value)) (l : List Frame) (u most : ℕ) (cs : List Cell) (j : Judgement) where
+    job_by : (w : Wait) (n : ℕ) → w.left ≡ n → WaitOk k (length l) w → Ok k l w.job.height → Some (Next j) ≡ Some (job_or w (next_of n (part_job w)))
+        → (stage k es (Waits (past (next_of n (part_job w)) w (stepped k w)) ∷ l) u cs (arrival u j) ≡ carry k (setup k most) es (Waits w ∷ l) u cs)
+        × StageOk k (Waits (past (next_of n (part_job w)) w (stepped k w)) ∷ l) u (arrival u j)
+    job_by w zero e o f p = absurd (cc)
+    job_by w (suc n) e o f p =
+        let q : j ≡ Of (part_job w) = cc in
+        let m : w.left - 1 ≡ n = omega arith in
+        let lo = o.job.low in let fw = o.few in
+        let ps = subst (λ x. Starts k x w.next) e o.parts in
+        let job : JobOk k (suc (length l)) (part_job w) = record { start = ps.0; based = o.job.based; low = omega arith } in
+        let ok : WaitOk k (length l) (stepped k w) = record { job = o.job; parts = rw m ps.1; few = omega arith } in
+        let a = arrives es (Waits (stepped k w) ∷ l) u most cs (Of (part_job w)) (job, (ok, omega arith, omega arith, f)) in
+        rw q (a.0 ∙ rw (m, e), a.1)
 
-  next_cases : (b : Bool) (es : List (Entry Value)) (l : List Frame) (w : Wait) (u most : ℕ) (cs : List Cell) (j : Job) → eqb w.left 0 ≡ b → WaitOk k (length l) w → Ok k l w.job.height
-      → Next j ≡ cond b (Whole w) (Next (part_job w))
-      → (stage k es (Waits (cond b w (stepped k w)) ∷ l) u cs (arrival u j) ≡ carry k (setup k most) es (Waits w ∷ l) u cs) × StageOk k (Waits (cond b w (stepped k w)) ∷ l) u (arrival u j)
-  next_cases true es l w u most cs j t o f e = let z : ◌≡◌ {A = ℕ} 0 1 = cc in absurd (omega arith)
-  next_cases false es l w u most cs j t o f e =
-      let n = eqb-false w.left 0 t in
-      let m : w.left ≡ suc (w.left - 1) = omega arith in
-      let q : j ≡ part_job w = cc in
-      rw q (next_waits es l w u most (w.left - 1) cs m o f)
+    pair_by : (q : Pairs) (h : ℕ) (ps : List (Value × Value)) → pairs_of q ≡ ps → Ok k l h → Some (Next j) ≡ Some (pair_or (pair_of q.at ps))
+        → (stage k es (Compares (past (pair_of q.at ps) q (paired q)) ∷ l) u cs (arrival u j) ≡ carry k (setup k most) es (Compares q ∷ l) u cs)
+        × StageOk k (Compares (past (pair_of q.at ps) q (paired q)) ∷ l) u (arrival u j)
+    pair_by q h [] e o p = absurd (cc)
+    pair_by q h (x ∷ ps) e o p =
+        let i : j ≡ Same (record { at = q.at; one = x.0; other = x.1 }) = cc in
+        let b = pairs_behind q x ps e in
+        let a = arrives es (Compares (paired q) ∷ l) u most cs (Same (record { at = q.at; one = x.0; other = x.1 })) (h, o) in
+        rw i (a.0 ∙ rw (b, e), a.1)
 
-  pub next_part : (es : List (Entry Value)) (l : List Frame) (u most : ℕ) (cs : List Cell) (j : Job) → Carries k l → Next j ≡ part_of l
+  next_part : (es : List (Entry Value)) (l : List Frame) (u most : ℕ) (cs : List Cell) (j : Judgement) → Carries k l → Some (Next j) ≡ part_of l
       → (stage k es (parted k l) u cs (arrival u j) ≡ carry k (setup k most) es l u cs) × StageOk k (parted k l) u (arrival u j)
-  next_part es [] u most cs j o e = let z : ◌≡◌ {A = ℕ} 0 1 = cc in absurd (omega arith)
-  next_part es (Passes ∷ l) u most cs j o e = let z : ◌≡◌ {A = ℕ} 0 1 = cc in absurd (omega arith)
-  next_part es (Waits w ∷ l) u most cs j o e = next_cases (eqb w.left 0) es l w u most cs j refl o.0 o.1 e
-  next_part es (Compares q ∷ l) u most cs j o e = absurd (not_next (eqb q.left 0) q j e)
-    where
-      not_next : (b : Bool) (q : Pairs) (j : Job) → Next j ≡ cond b Equal (Compare (next_pair q)) → ⊥
-      not_next true q j e = let z : ◌≡◌ {A = ℕ} 0 1 = cc in omega arith
-      not_next false q j e = let z : ◌≡◌ {A = ℕ} 0 1 = cc in omega arith
+  next_part es [] u most cs j o e = absurd (cc)
+  next_part es (Passes ∷ l) u most cs j o e = absurd (cc)
+  next_part es (Waits w ∷ l) u most cs j o e = job_by es l u most cs j w w.left refl o.0 o.1 e
+  next_part es (Compares q ∷ l) u most cs j o e = pair_by es l u most cs j q o.0 (pairs_of q) refl o.1 e
 
-  pub no_part : (es : List (Entry Value)) (l : List Frame) (u most : ℕ) (cs : List Cell) → Nothing ≡ part_of l → stuck 0 u cs ≡ carry k (setup k most) es l u cs
+  pub next_done : (es : List (Entry Value)) (l l' : List Frame) (u most : ℕ) (cs : List Cell) (j : Judgement) (s : Stage) → Carries k l → Some (Next j) ≡ part_of l → l' ≡ parted k l → s ≡ arrival u j
+      → (stage k es l' u cs s ≡ carry k (setup k most) es l u cs) × StageOk k l' u s
+  next_done es l l' u most cs j s o e p q = rw (p, q) (next_part es l u most cs j o e)
+
+  pub no_part : (es : List (Entry Value)) (l : List Frame) (u most : ℕ) (cs : List Cell) → None ≡ part_of l → stuck 0 u cs ≡ carry k (setup k most) es l u cs
   no_part es [] u most cs e = refl
   no_part es (Passes ∷ l) u most cs e = refl
-  no_part es (Waits w ∷ l) u most cs e = absurd (no_cases (eqb w.left 0) w e)
-    where
-      no_cases : (b : Bool) (w : Wait) → Nothing ≡ cond b (Whole w) (Next (part_job w)) → ⊥
-      no_cases true w e = let z : ◌≡◌ {A = ℕ} 0 1 = cc in omega arith
-      no_cases false w e = let z : ◌≡◌ {A = ℕ} 0 1 = cc in omega arith
-  no_part es (Compares q ∷ l) u most cs e = absurd (not_nothing (eqb q.left 0) q e)
-    where
-      not_nothing : (b : Bool) (q : Pairs) → Nothing ≡ cond b Equal (Compare (next_pair q)) → ⊥
-      not_nothing true q e = let z : ◌≡◌ {A = ℕ} 0 1 = cc in omega arith
-      not_nothing false q e = let z : ◌≡◌ {A = ℕ} 0 1 = cc in omega arith
+  no_part es (Waits w ∷ l) u most cs e = absurd (cc)
+  no_part es (Compares q ∷ l) u most cs e = absurd (cc)
 
   -- the whole frame
   pub record WholeFrame (l : List Frame) (w : Wait) : Type 0 where
@@ -142,16 +112,20 @@ module _ (k : Program) where
     pub rest : Ok k (below l) w.job.height
     pub long : length l ≡ suc (length (below l))
 
-  whole_cases : (b : Bool) (l : List Frame) (v w : Wait) → eqb v.left 0 ≡ b → WaitOk k (length l) v → Ok k l v.job.height
-      → Whole w ≡ cond b (Whole v) (Next (part_job v)) → (v ≡ w) × (v.left ≡ 0) × (Waits (cond b v (stepped k v)) ∷ l ≡ Waits v ∷ l)
-  whole_cases true l v w t o f e = (cc, eqb-true v.left 0 t, refl)
-  whole_cases false l v w t o f e = let z : ◌≡◌ {A = ℕ} 0 1 = cc in absurd (omega arith)
+  whole_by : (l : List Frame) (v w : Wait) (n : ℕ) → v.left ≡ n → Some (Whole w) ≡ Some (job_or v (next_of n (part_job v)))
+      → (v ≡ w) × (v.left ≡ 0) × (Waits (past (next_of n (part_job v)) v (stepped k v)) ∷ l ≡ Waits v ∷ l)
+  whole_by l v w zero e p = (cc, e, refl)
+  whole_by l v w (suc n) e p = absurd (cc)
 
-  pub whole : (l : List Frame) (w : Wait) → Carries k l → Whole w ≡ part_of l → WholeFrame l w
-  whole [] w o e = let z : ◌≡◌ {A = ℕ} 0 1 = cc in absurd (omega arith)
-  whole (Passes ∷ l) w o e = let z : ◌≡◌ {A = ℕ} 0 1 = cc in absurd (omega arith)
+  not_whole : (w : Wait) (p : ℕ) (ps : List (Value × Value)) → ¬ (Some (Whole w) ≡ Some (pair_or (pair_of p ps)))
+  not_whole w p [] e = cc
+  not_whole w p (x ∷ ps) e = cc
+
+  pub whole : (l : List Frame) (w : Wait) → Carries k l → Some (Whole w) ≡ part_of l → WholeFrame l w
+  whole [] w o e = absurd (cc)
+  whole (Passes ∷ l) w o e = absurd (cc)
   whole (Waits v ∷ l) w o e =
-      let q = whole_cases (eqb v.left 0) l v w refl o.0 o.1 e in
+      let q = whole_by l v w v.left refl e in
       let s = q.0 in
       record {
         is = ap (λ x. Waits x ∷ l) s;
@@ -161,198 +135,43 @@ module _ (k : Program) where
         rest = subst (λ (x : Wait). Ok k l x.job.height) s o.1;
         long = refl;
       }
-  whole (Compares q ∷ l) w o e = absurd (not_whole (eqb q.left 0) q w e)
-    where
-      not_whole : (b : Bool) (q : Pairs) (w : Wait) → Whole w ≡ cond b Equal (Compare (next_pair q)) → ⊥
-      not_whole true q w e = let z : ◌≡◌ {A = ℕ} 0 1 = cc in omega arith
-      not_whole false q w e = let z : ◌≡◌ {A = ℕ} 0 1 = cc in omega arith
+  whole (Compares q ∷ l) w o e = absurd (not_whole w q.at (pairs_of q) e)
 
   pub ready : (l : List Frame) (w : Wait) → WholeFrame l w → length l ≤ 256 → Ready k w
   ready l w f h =
-      let o = f.ok in let j = o.job in let lo = j.low in let lg = f.long in let fw = o.few in
-      record { start = j.start; small = within k w.job.at j.start; based = j.based; low = omega arith; few = omega arith; whole = o.whole }
+      let j = f.ok.job in let lo = j.low in let lg = f.long in
+      record { start = j.start; small = within k w.job.at j.start; based = j.based; low = omega arith }
 
   -- what carrying on a whole frame comes to
-  pub carried : (es es' : List (Entry Value)) (l : List Frame) (w : Wait) (u most : ℕ) (cs cs' : List Cell) (r : Move) → WholeFrame l w → Did k most w es es' cs cs' r
-      → carry k (setup k most) es l u cs ≡ act (setup k most) (resume (setup k most) (frames k es' (below l))) w.job.at (frames k es' (below l)) u cs (move k es' cs' r)
-  carried es es' l w u most cs cs' r f d =
-      let i = f.is in
-      let n = f.none_left in
-      let p = (firsts_of_lem k w.job.at f.ok.job.start).here in
-      let q = frames_agree es es' (below l) w.job.height f.rest d.agree in
-      let m = d.does in
-      ap (λ (x : List Frame). carry k (setup k most) es x u cs) i ∙ rw (n, p, q, m)
+  module _ (es es' : List (Entry Value)) (l : List Frame) (w : Wait) (u most : ℕ) (cs cs' : List Cell) (f : WholeFrame l w) where
+    carried : (r : Option Move) → Did k most w es es' cs cs' r
+        → carry k (setup k most) es l u cs ≡ act (setup k most) (resume (setup k most) (frames k es' (below l))) w.job.at (frames k es' (below l)) u cs (move k es' cs' r)
+    carried r d =
+        let n = f.none_left in
+        let p = (firsts_of_lem k w.job.at f.ok.job.start).here in
+        let q = frames_agree k es es' (below l) w.job.height f.rest d.agree in
+        let m = d.does in
+        ap (λ (x : List Frame). carry k (setup k most) es x u cs) f.is ∙ rw (n, p, q, m)
 
-  -- a value goes to the newest frame that does not pass it on
-  pub resumes : (es : List (Entry Value)) (l : List Frame) (h u most : ℕ) (cs : List Cell) (v : Value) → Ok k l h
-      → resume (setup k most) (frames k es l) v u cs ≡ handed k (setup k most) es (given l v) v u cs (outcome l v)
-  resumes es [] h u most cs v o = refl
-  resumes es (Passes ∷ l) h u most cs v o = resumes es l h u most cs v o
-  resumes es (Waits w ∷ l) h u most cs v o =
-      let q = o.1 in
-      let g = o.0.whole in
-      let t = take_more_set w.values w.have v (omega arith) in
-      rw t
-  resumes es (Compares q ∷ l) h u most cs unit_v o = refl
-  resumes es (Compares q ∷ l) h u most cs (number_v n) o = refl
-  resumes es (Compares q ∷ l) h u most cs (boolean_v true) o = refl
-  resumes es (Compares q ∷ l) h u most cs (boolean_v false) o = resumes es l h u most cs (boolean_v false) o.1
-  resumes es (Compares q ∷ l) h u most cs (place_v i) o = refl
+    -- after a rule
+    pub rule_gives : (v : Value) → Did k most w es es' cs cs' (Some (Gives v)) → resume (setup k most) (frames k es' (below l)) v u cs' ≡ carry k (setup k most) es l u cs
+    rule_gives v d = sym (carried (Some (Gives v)) d)
 
-  pub given_ok : (l : List Frame) (h : ℕ) (v : Value) → Ok k l h → Carries k (given l v)
-  given_ok [] h v o = tt
-  given_ok (Passes ∷ l) h v o = given_ok l h v o
-  given_ok (Waits w ∷ l) h v o =
-      let q = o.1 in let x = o.0.few in let g = o.0.whole in
-      (record { job = o.0.job; parts = o.0.parts; few = omega arith; whole = simp length-set g }, o.3)
-  given_ok (Compares q ∷ l) h unit_v o = (o.0, (h, o.1))
-  given_ok (Compares q ∷ l) h (number_v n) o = (o.0, (h, o.1))
-  given_ok (Compares q ∷ l) h (boolean_v true) o = (o.0, (h, o.1))
-  given_ok (Compares q ∷ l) h (boolean_v false) o = given_ok l h (boolean_v false) o.1
-  given_ok (Compares q ∷ l) h (place_v i) o = (o.0, (h, o.1))
+    pub rule_stuck : Did k most w es es' cs cs' None → stuck w.job.at u cs' ≡ carry k (setup k most) es l u cs
+    rule_stuck d = let q = d.kept in rw q (sym (carried None d))
 
-  pub given_short : (l : List Frame) (v : Value) → length (given l v) ≤ length l
-  given_short [] v = omega arith
-  given_short (Passes ∷ l) v = let q = given_short l v in omega arith
-  given_short (Waits w ∷ l) v = omega arith
-  given_short (Compares q ∷ l) unit_v = omega arith
-  given_short (Compares q ∷ l) (number_v n) = omega arith
-  given_short (Compares q ∷ l) (boolean_v true) = omega arith
-  given_short (Compares q ∷ l) (boolean_v false) = let q = given_short l (boolean_v false) in omega arith
-  given_short (Compares q ∷ l) (place_v i) = omega arith
+    leads_on : (j : Judgement) → LeadsTo k w j → JudgementOk k (Passes ∷ below l) j
+    leads_on (Of j) d =
+        let o = f.ok.job.low in let b = d.2 in let c = d.3 in
+        (record { start = d.0; based = d.1; low = omega arith }, ok_weaken k (below l) w.job.height j.height b f.rest)
+    leads_on (Same p) d = (w.job.height, f.rest)
 
-  -- what giving a value comes to
-  pub handing : (es : List (Entry Value)) (l l' : List Frame) (h u most : ℕ) (cs : List Cell) (v : Value) (r : Given) → Ok k l h → r ≡ outcome l v → l' ≡ given l v
-      → (handed k (setup k most) es l' v u cs r ≡ resume (setup k most) (frames k es l) v u cs) × Carries k l' × (length l' ≤ length l)
-  handing es l l' h u most cs v r o p q = rw (p, q) (sym (resumes es l h u most cs v o), given_ok l h v o, given_short l v)
-
-  pub goes_on : (l : List Frame) (w : Wait) (j : Job) → WholeFrame l w → Leads k w (Goes j) → JobOk k (length (Passes ∷ below l)) j × Ok k (Passes ∷ below l) j.height
-  goes_on l w j f d =
-      let o = f.ok.job.low in let a = d.1 in let b = d.2 in let c = d.3 in
-      (record { start = d.0; based = a; low = omega arith }, ok_weaken (below l) w.job.height j.height b f.rest)
-
-  pub next_fits : (l : List Frame) → Carries k l → NextFits l
-  next_fits [] o = tt
-  next_fits (Passes ∷ l) o = tt
-  next_fits (Compares q ∷ l) o = λ h. let e = o.0 in omega arith
-  next_fits (Waits w ∷ l) o = λ h. let m : w.left ≡ suc (w.left - 1) = omega arith in within k w.next (subst (λ x. Starts k x w.next) m o.0.parts).0
-
-  -- after a rule that gives a value
-  pub gives_on : (es es' : List (Entry Value)) (l : List Frame) (w : Wait) (u most : ℕ) (cs cs' : List Cell) (v : Value) → WholeFrame l w → Did k most w es es' cs cs' (Gives v)
-      → resume (setup k most) (frames k es' (below l)) v u cs' ≡ carry k (setup k most) es l u cs
-  gives_on es es' l w u most cs cs' v f d = sym (carried es es' l w u most cs cs' (Gives v) f d)
-
-  pub rule_stops : (es es' : List (Entry Value)) (l : List Frame) (w : Wait) (u most : ℕ) (cs cs' : List Cell) (x : Stop) → WholeFrame l w → Did k most w es es' cs cs' (Stops x)
-      → ended (stop x) u cs' ≡ carry k (setup k most) es l u cs
-  rule_stops es es' l w u most cs cs' x f d = let q = d.kept in rw q (sym (carried es es' l w u most cs cs' (Stops x) f d))
-
-  pub rule_stuck : (es es' : List (Entry Value)) (l : List Frame) (w : Wait) (u most : ℕ) (cs cs' : List Cell) → WholeFrame l w → Did k most w es es' cs cs' Stuck
-      → stuck w.job.at u cs' ≡ carry k (setup k most) es l u cs
-  rule_stuck es es' l w u most cs cs' f d = let q = d.kept in rw q (sym (carried es es' l w u most cs cs' Stuck f d))
-
-  pub rule_goes : (es es' : List (Entry Value)) (l l' : List Frame) (w : Wait) (u most : ℕ) (cs cs' : List Cell) (j : Job) → WholeFrame l w → Did k most w es es' cs cs' (Goes j)
-      → l' ≡ Passes ∷ below l → (stage k es' l' u cs' (arrival u j) ≡ carry k (setup k most) es l u cs) × StageOk k l' u (arrival u j)
-  rule_goes es es' l l' w u most cs cs' j f d q =
-      let o = goes_on l w j f d.leads in
-      let a = arrives es' (Passes ∷ below l) u most cs' j o.0 o.1 in
-      let c = d.kept in
-      rw q ((a.0 ∙ rw c (sym (carried es es' l w u most cs cs' (Goes j) f d))), a.1)
-
-  pub next_done : (es : List (Entry Value)) (l l' : List Frame) (u most : ℕ) (cs : List Cell) (j : Job) (s : Stage) → Carries k l → Next j ≡ part_of l → l' ≡ parted k l → s ≡ arrival u j
-      → (stage k es l' u cs s ≡ carry k (setup k most) es l u cs) × StageOk k l' u s
-  next_done es l l' u most cs j s o e p q = rw (p, q) (next_part es l u most cs j o e)
-
-  pub goes_done : (es es' : List (Entry Value)) (l l' : List Frame) (w : Wait) (u most : ℕ) (cs cs' : List Cell) (j : Job) (s : Stage) → WholeFrame l w → Did k most w es es' cs cs' (Goes j)
-      → l' ≡ Passes ∷ below l → s ≡ arrival u j → (stage k es' l' u cs' s ≡ carry k (setup k most) es l u cs) × StageOk k l' u s
-  goes_done es es' l l' w u most cs cs' j s f d q e = rw e (rule_goes es es' l l' w u most cs cs' j f d q)
-
-  -- a judgement that was just opened
-  pub begins : (es : List (Entry Value)) (l : List Frame) (u most : ℕ) (cs : List Cell) (j : Job) → Start k j.at
-      → carry k (setup k most) es (Waits (opening k j) ∷ l) u cs ≡ begin (setup k most) (scope es j ⊢ expr k j.at) (frames k es l) u cs
-  begins es l u most cs j s = let p = (firsts_of_lem k j.at s).parts in rw (← p)
-
-  pub begins_ok : (l : List Frame) (j : Job) → JobOk k (length l) j → Ok k l j.height → Carries k (Waits (opening k j) ∷ l)
-  begins_ok l j o f =
-      let p = firsts_of_lem k j.at o.start in
-      let q = p.few in
-      (record { job = o; parts = p.starts; few = omega arith; whole = refl }, f)
-
-  -- a state in which nothing is to be opened stays
-  pub rests : (es : List (Entry Value)) (l : List Frame) (u most : ℕ) (cs : List Cell) (s : Stage) → ((j : Job) → s ≡ Going j → ⊥) → ((p : Pair) → s ≡ Comparing p → ⊥) → (n : ℕ) → turn (setup k most) n (stage k es l u cs s) ≡ stage k es l u cs s
-  rests es l u most cs s h h' zero = refl
-  rests es l u most cs (Going j) h h' (suc n) = absurd (h j refl)
-  rests es l u most cs (Comparing p) h h' (suc n) = absurd (h' p refl)
-  rests es l u most cs (Gave v) h h' (suc n) = rests es l u most cs (Gave v) h h' n
-  rests es l u most cs (Ended x) h h' (suc n) = rests es l u most cs (Ended x) h h' n
-  rests es l u most cs (Halted p) h h' (suc n) = rests es l u most cs (Halted p) h h' n
-
-  length_frames : (es : List (Entry Value)) (l : List Frame) → length (frames k es l) ≡ length l
-  length_frames es [] = refl
-  length_frames es (f ∷ l) = ap suc (length_frames es l)
-
-  opens_deep' : (es : List (Entry Value)) (l : List Frame) (u most : ℕ) (cs : List Cell) (j : Job) → StageOk k l u (Going j) → length l ≡ 256
-      → ended (stop (too_deep j.at)) (u + 1) cs ≡ step (setup k most) (stage k es l u cs (Going j))
-  opens_deep' es l u most cs j o e =
-      let p = (firsts_of_lem k j.at o.0.start).here in
-      let t = le-leb 256 (length (frames k es l)) (omega (arith, length_frames es l)) in rw (t, p, add-one)
-
-  pub opens_deep : (es : List (Entry Value)) (l : List Frame) (u most : ℕ) (cs : List Cell) (j : Job) (s : Stage) → s ≡ Going j → StageOk k l u s → length l ≡ 256
-      → ended (stop (too_deep j.at)) (u + 1) cs ≡ step (setup k most) (stage k es l u cs s)
-  opens_deep es l u most cs j s q o e = rw q (opens_deep' es l u most cs j (subst (λ x. StageOk k l u x) q o) e)
-
-  opens' : (es : List (Entry Value)) (l : List Frame) (u most : ℕ) (cs : List Cell) (j : Job) → StageOk k l u (Going j) → length l < 256
-      → carry k (setup k most) es (Waits (opening k j) ∷ l) (u + 1) cs ≡ step (setup k most) (stage k es l u cs (Going j))
-  opens' es l u most cs j o e =
-      let t = lt-leb 256 (length (frames k es l)) (omega (arith, length_frames es l)) in
-      begins es l (u + 1) most cs j o.0.start ∙ rw (t, add-one)
-
-  pub opens : (es : List (Entry Value)) (l l' : List Frame) (u most : ℕ) (cs : List Cell) (j : Job) (w : Wait) (s : Stage) → s ≡ Going j → StageOk k l u s → length l < 256 → l' ≡ Waits w ∷ l → w ≡ opening k j
-      → (carry k (setup k most) es l' (u + 1) cs ≡ step (setup k most) (stage k es l u cs s)) × Carries k l'
-  opens es l l' u most cs j w s q o e p r =
-      let g = subst (λ x. StageOk k l u x) q o in
-      rw (q, p, r) (opens' es l u most cs j g e, begins_ok l j g.0 g.1)
-
-  pub going_small : (l : List Frame) (u : ℕ) (j : Job) (s : Stage) → s ≡ Going j → StageOk k l u s → j.at < 512
-  going_small l u j s q o = within k j.at (subst (λ x. StageOk k l u x) q o).0.start
-
-  -- a comparison is to be opened
-  pair_arrives : (b : Bool) (es : List (Entry Value)) (l : List Frame) (h u : ℕ) (cs : List Cell) (p : Pair) → leb 1000000 u ≡ b → Ok k l h
-      → (stage k es l u cs (cond b (Ended (overrun p.at)) (Comparing p)) ≡ cond b (ended (stop (overrun p.at)) u cs) (going (same p.at p.one p.other) (frames k es l) u cs))
-      × StageOk k l u (cond b (Ended (overrun p.at)) (Comparing p))
-  pair_arrives true es l h u cs p e o = (refl, tt)
-  pair_arrives false es l h u cs p e o = (refl, ((h, o), omega (arith, leb-false 1000000 u e)))
-
-  compare_waits : (es : List (Entry Value)) (l : List Frame) (q : Pairs) (h u most n : ℕ) (cs : List Cell) → q.left ≡ suc n → q.next + q.left ≤ 4 → Ok k l h
-      → (stage k es (Compares (paired q) ∷ l) u cs (pair_arrival u (next_pair q)) ≡ carry k (setup k most) es (Compares q ∷ l) u cs) × StageOk k (Compares (paired q) ∷ l) u (pair_arrival u (next_pair q))
-  compare_waits es l q h u most n cs e f o =
-      let m : q.left - 1 ≡ n = omega arith in
-      let a = pair_arrives (leb 1000000 u) es (Compares (paired q) ∷ l) h u cs (next_pair q) refl (omega arith, o) in
-      (a.0 ∙ rw (m, e), a.1)
-
-  compare_cases : (b : Bool) (es : List (Entry Value)) (l : List Frame) (q : Pairs) (h u most : ℕ) (cs : List Cell) (p : Pair) → eqb q.left 0 ≡ b → q.next + q.left ≤ 4 → Ok k l h
-      → Compare p ≡ cond b Equal (Compare (next_pair q))
-      → (stage k es (Compares (cond b q (paired q)) ∷ l) u cs (pair_arrival u p) ≡ carry k (setup k most) es (Compares q ∷ l) u cs) × StageOk k (Compares (cond b q (paired q)) ∷ l) u (pair_arrival u p)
-  compare_cases true es l q h u most cs p t f o e = let z : ◌≡◌ {A = ℕ} 0 1 = cc in absurd (omega arith)
-  compare_cases false es l q h u most cs p t f o e =
-      let n = eqb-false q.left 0 t in
-      let m : q.left ≡ suc (q.left - 1) = omega arith in
-      let x : p ≡ next_pair q = cc in
-      rw x (compare_waits es l q h u most (q.left - 1) cs m f o)
-
-  compare_part : (es : List (Entry Value)) (l : List Frame) (u most : ℕ) (cs : List Cell) (p : Pair) → Carries k l → Compare p ≡ part_of l
-      → (stage k es (parted k l) u cs (pair_arrival u p) ≡ carry k (setup k most) es l u cs) × StageOk k (parted k l) u (pair_arrival u p)
-  compare_part es [] u most cs p o e = let z : ◌≡◌ {A = ℕ} 0 1 = cc in absurd (omega arith)
-  compare_part es (Passes ∷ l) u most cs p o e = let z : ◌≡◌ {A = ℕ} 0 1 = cc in absurd (omega arith)
-  compare_part es (Waits w ∷ l) u most cs p o e = absurd (not_compare (eqb w.left 0) w p e)
-    where
-      not_compare : (b : Bool) (w : Wait) (p : Pair) → Compare p ≡ cond b (Whole w) (Next (part_job w)) → ⊥
-      not_compare true w p e = let z : ◌≡◌ {A = ℕ} 0 1 = cc in omega arith
-      not_compare false w p e = let z : ◌≡◌ {A = ℕ} 0 1 = cc in omega arith
-  compare_part es (Compares q ∷ l) u most cs p o e = compare_cases (eqb q.left 0) es l q o.1.0 u most cs p refl o.0 o.1.1 e
-
-  pub compare_done : (es : List (Entry Value)) (l l' : List Frame) (u most : ℕ) (cs : List Cell) (p : Pair) (s : Stage) → Carries k l → Compare p ≡ part_of l → l' ≡ parted k l → s ≡ pair_arrival u p
-      → (stage k es l' u cs s ≡ carry k (setup k most) es l u cs) × StageOk k l' u s
-  compare_done es l l' u most cs p s o e x y = rw (x, y) (compare_part es l u most cs p o e)
+    pub rule_goes : (l' : List Frame) (j : Judgement) (s : Stage) → Did k most w es es' cs cs' (Some (Goes j)) → l' ≡ Passes ∷ below l → s ≡ arrival u j
+        → (stage k es' l' u cs' s ≡ carry k (setup k most) es l u cs) × StageOk k l' u s
+    rule_goes l' j s d q e =
+        let a = arrives es' (Passes ∷ below l) u most cs' j (leads_on j d.leads) in
+        let c = d.kept in
+        rw (q, e) ((a.0 ∙ rw c (sym (carried (Some (Goes j)) d))), a.1)
 
   -- a comparison with no pair left
   pub record EqualFrame (l : List Frame) : Type 0 where
@@ -362,56 +181,75 @@ module _ (k : Program) where
     pub long : length l ≡ suc (length (below l))
     pub does : (es : List (Entry Value)) (u most : ℕ) (cs : List Cell) → resume (setup k most) (frames k es (below l)) (boolean_v true) u cs ≡ carry k (setup k most) es l u cs
 
-  equal_cases : (b : Bool) (l : List Frame) (q : Pairs) → eqb q.left 0 ≡ b → Equal ≡ cond b Equal (Compare (next_pair q)) → (Compares (cond b q (paired q)) ∷ l ≡ Compares q ∷ l) × (q.left ≡ 0)
-  equal_cases true l q t e = (refl, eqb-true q.left 0 t)
-  equal_cases false l q t e = let z : ◌≡◌ {A = ℕ} 0 1 = cc in absurd (omega arith)
+  not_equal : (w : Wait) (n : ℕ) → ¬ (Some Equal ≡ Some (job_or w (next_of n (part_job w))))
+  not_equal w zero e = cc
+  not_equal w (suc n) e = cc
 
-  pub equal : (l : List Frame) → Carries k l → Equal ≡ part_of l → EqualFrame l
-  equal [] o e = let z : ◌≡◌ {A = ℕ} 0 1 = cc in absurd (omega arith)
-  equal (Passes ∷ l) o e = let z : ◌≡◌ {A = ℕ} 0 1 = cc in absurd (omega arith)
-  equal (Waits w ∷ l) o e = absurd (not_equal (eqb w.left 0) w e)
-    where
-      not_equal : (b : Bool) (w : Wait) → Equal ≡ cond b (Whole w) (Next (part_job w)) → ⊥
-      not_equal true w e = let z : ◌≡◌ {A = ℕ} 0 1 = cc in omega arith
-      not_equal false w e = let z : ◌≡◌ {A = ℕ} 0 1 = cc in omega arith
+  equal_by : (l : List Frame) (q : Pairs) (ps : List (Value × Value)) → pairs_of q ≡ ps → Some Equal ≡ Some (pair_or (pair_of q.at ps))
+      → (Compares (past (pair_of q.at ps) q (paired q)) ∷ l ≡ Compares q ∷ l) × (pairs_of q ≡ [])
+  equal_by l q [] e p = (refl, e)
+  equal_by l q (x ∷ ps) e p = absurd (cc)
+
+  pub equal : (l : List Frame) → Carries k l → Some Equal ≡ part_of l → EqualFrame l
+  equal [] o e = absurd (cc)
+  equal (Passes ∷ l) o e = absurd (cc)
+  equal (Waits w ∷ l) o e = absurd (not_equal w w.left e)
   equal (Compares q ∷ l) o e =
-      let x = equal_cases (eqb q.left 0) l q refl e in
+      let x = equal_by l q (pairs_of q) refl e in
       let n = x.1 in
-      record { same = x.0; height = o.1.0; rest = o.1.1; long = refl; does = λ es u most cs. rw n }
+      record { same = x.0; height = o.0; rest = o.1; long = refl; does = λ es u most cs. rw n }
 
-  -- a rule that compares
-  pub pairs_done : (es es' : List (Entry Value)) (l l' : List Frame) (w : Wait) (u most : ℕ) (cs cs' : List Cell) (p : Pair) (s : Stage) → WholeFrame l w → Did k most w es es' cs cs' (PairsUp p)
-      → l' ≡ Passes ∷ below l → s ≡ pair_arrival u p → (stage k es' l' u cs' s ≡ carry k (setup k most) es l u cs) × StageOk k l' u s
-  pairs_done es es' l l' w u most cs cs' p s f d q e =
-      let a = pair_arrives (leb 1000000 u) es' (Passes ∷ below l) w.job.height u cs' p refl f.rest in
-      let c = d.kept in
-      rw (q, e) ((a.0 ∙ rw c (sym (carried es es' l w u most cs cs' (PairsUp p) f d))), a.1)
+  -- what giving a value comes to
+  pub record Handing (es : List (Entry Value)) (l l' : List Frame) (u most : ℕ) (cs : List Cell) (v : Value) (r : Given) : Type 0 where
+    pub does : handed k (setup k most) es l' v u cs r ≡ resume (setup k most) (frames k es l) v u cs
+    pub carries : Carries k l'
+    pub short : length l' ≤ length l
 
-  -- a comparison that is opened
-  pub pair_deep : (es : List (Entry Value)) (l : List Frame) (u most : ℕ) (cs : List Cell) (p : Pair) (s : Stage) → s ≡ Comparing p → length l ≡ 256
-      → ended (stop (too_deep p.at)) (u + 1) cs ≡ step (setup k most) (stage k es l u cs s)
-  pair_deep es l u most cs p s q e = let t = le-leb 256 (length (frames k es l)) (omega (arith, length_frames es l)) in rw (q, t, add-one)
+  longer : {es : List (Entry Value)} {l l' : List Frame} {u most : ℕ} {cs : List Cell} {v : Value} {r : Given} (f : Frame)
+      → handed k (setup k most) es l' v u cs r ≡ resume (setup k most) (frames k es (f ∷ l)) v u cs → Handing es l l' u most cs v r → Handing es (f ∷ l) l' u most cs v r
+  longer f e h = let s = h.short in record { does = e; carries = h.carries; short = omega arith }
 
-  pub pair_begins : (es : List (Entry Value)) (l : List Frame) (u most : ℕ) (cs : List Cell) (p : Pair) (s : Stage) (r : Verdict) → s ≡ Comparing p → length l < 256 → verdict r ≡ compare cs p.one p.other
-      → settle (setup k most) (resume (setup k most) (frames k es l)) p.at (frames k es l) (u + 1) cs (verdict r) ≡ step (setup k most) (stage k es l u cs s)
-  pair_begins es l u most cs p s r q e v = let t = lt-leb 256 (length (frames k es l)) (omega (arith, length_frames es l)) in rw (q, t, add-one, v)
+  module _ (es : List (Entry Value)) (u most : ℕ) (cs : List Cell) where
+    compares_on : (l l' : List Frame) (q : Pairs) (h : ℕ) (v : Value) (r : Given) → Ok k l h → l' ≡ Compares q ∷ l
+        → handed k (setup k most) es (Compares q ∷ l) v u cs r ≡ resume (setup k most) (frames k es (Compares q ∷ l)) v u cs → Handing es (Compares q ∷ l) l' u most cs v r
+    compares_on l l' q h v r o t e = rw t (record { does = e; carries = (h, o); short = omega arith })
 
-  pub pair_ok : (l : List Frame) (u : ℕ) (p : Pair) (s : Stage) → s ≡ Comparing p → StageOk k l u s → (h : ℕ) × Ok k l h
-  pair_ok l u p s q o = (subst (λ x. StageOk k l u x) q o).0
+    handing : (l l' : List Frame) (h : ℕ) (v : Value) → Ok k l h → Took l v l' → Handing es l l' u most cs v (outcome l v)
+    handing [] l' h v o t = rw t (record { does = refl; carries = tt; short = omega arith })
+    handing (Passes ∷ l) l' h v o t = let n = handing l l' h v o t in longer Passes n.does n
+    handing (Waits w ∷ l) l' h v o t =
+        let m = t.1.1 in
+        let i = t.2 ∙ ap (λ f. f ∷ l) t.1.2 in
+        let j = m.job in let a = m.next in let b = m.left in let c = m.vals in
+        let n = ap length c ∙ length-append (vals w) (v ∷ []) in
+        let room = o.1 in
+        rw i (record {
+          does = rw (j, a, b, c);
+          carries = (record { job = rw j o.0.job; parts = rw (a, b) o.0.parts; few = omega arith }, rw j o.3);
+          short = omega arith;
+        })
+    handing (Compares q ∷ l) l' h unit_v o t = compares_on l l' q h unit_v _ o (t.2 ∙ ap (λ f. f ∷ l) t.1) refl
+    handing (Compares q ∷ l) l' h (number_v n) o t = compares_on l l' q h (number_v n) _ o (t.2 ∙ ap (λ f. f ∷ l) t.1) refl
+    handing (Compares q ∷ l) l' h (boolean_v true) o t = compares_on l l' q h (boolean_v true) _ o (t.2 ∙ ap (λ f. f ∷ l) t.1) refl
+    handing (Compares q ∷ l) l' h (boolean_v false) o t = let n = handing l l' h (boolean_v false) o t in longer (Compares q) n.does n
+    handing (Compares q ∷ l) l' h (place_v i) o t = compares_on l l' q h (place_v i) _ o (t.2 ∙ ap (λ f. f ∷ l) t.1) refl
 
-  pub pair_fields : (es : List (Entry Value)) (l l' : List Frame) (u most : ℕ) (cs : List Cell) (p : Pair) (q : Pairs) → q.at ≡ p.at → l' ≡ Compares q ∷ l
-      → carry k (setup k most) es l' (u + 1) cs ≡ settle (setup k most) (resume (setup k most) (frames k es l)) p.at (frames k es l) (u + 1) cs (verdict (Fields q))
-  pair_fields es l l' u most cs p q e x = rw (x, e)
+    pub handing_of : (l l' : List Frame) (h : ℕ) (v : Value) (r : Given) → Ok k l h → r ≡ outcome l v → Took l v l' → Handing es l l' u most cs v r
+    handing_of l l' h v r o e t = rw e (handing l l' h v o t)
 
-pub turn_less : (S : Setup) (n : ℕ) (s : State) → 0 < n → turn S n s ≡ turn S (n - 1) (step S s)
-turn_less S zero s h = absurd (omega arith)
-turn_less S (suc n) s h = let e : suc n - 1 ≡ n = omega arith in rw e
+-- the newest frame is gone, and its value was given
+module _ {X : Type 0} (cells : X → List Cell) (limit : X → ℕ) (k : Program) (r m r' : Run X) (v : Value) where
+  rounds_by : (b : Bool) → Handed cells k (setup k (limit r.store)) m r' v b
+      → resume (setup k (limit r.store)) (frames k m.entries (held m.stack)) v m.units (cells m.store) ≡ carry k (setup k (limit r.store)) r.entries (held r.stack) r.units (cells r.store)
+      → m.stack.count < r.stack.count → Rounded cells limit k r r' b
+  rounds_by true h e n = let x = h.2 in (h.0 ∙ e, h.1, omega arith)
+  rounds_by false h e n = (h.0 ∙ e, h.1)
 
-pub hand_rounds : {X : Type 0} (cells : X → List Cell) (limit : X → ℕ) (k : Program) (r m r' : Run X) (v : Value) (b : Bool) → Handed cells k (setup k (limit r.store)) m r' v b
-    → resume (setup k (limit r.store)) (frames k m.entries (held m.stack)) v m.units (cells m.store) ≡ carry k (setup k (limit r.store)) r.entries (held r.stack) r.units (cells r.store)
-    → m.stack.count < r.stack.count → Rounded cells limit k r r' b
-hand_rounds cells limit k r m r' v true h e n = let x = h.2 in (h.0 ∙ e, h.1, omega arith)
-hand_rounds cells limit k r m r' v false h e n = (h.0 ∙ e, h.1)
-
-pub step_rests : (k : Program) (es : List (Entry Value)) (l : List Frame) (u most : ℕ) (cs : List Cell) (s : Stage) → ((j : Job) → s ≡ Going j → ⊥) → ((p : Pair) → s ≡ Comparing p → ⊥) → stage k es l u cs s ≡ step (setup k most) (stage k es l u cs s)
-step_rests k es l u most cs s a b = sym (rests k es l u most cs s a b 1)
+  pub popped : (b : Bool) (h : ℕ) → held m.stack ≡ below (held r.stack) → length (held r.stack) ≡ suc (length (below (held r.stack))) → Ok k (below (held r.stack)) h
+      → resume (setup k (limit r.store)) (frames k m.entries (below (held r.stack))) v m.units (cells m.store) ≡ carry k (setup k (limit r.store)) r.entries (held r.stack) r.units (cells r.store)
+      → ((k : Program) (most h : ℕ) → Ok k (held m.stack) h → Handed cells k (setup k most) m r' v b) → Rounded cells limit k r r' b
+  popped b h p long o e d =
+      let x = length_newest r.stack.frames r.stack.count in
+      let y = length_newest m.stack.frames m.stack.count in
+      let n = ap length p in
+      rounds_by b (d k (limit r.store) h (rw p o)) (rw p e) (omega arith)

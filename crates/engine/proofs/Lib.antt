@@ -1,2 +1,4 @@
+pub mod Levels
 pub mod Carries
+pub mod Openings
 pub mod Begins

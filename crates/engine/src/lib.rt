@@ -3,5 +3,5 @@
 mod beginning;
 mod run;
 
-pub use beginning::{begin, idle};
+pub use beginning::{NotBegun, begin, idle};
 pub use run::advance;

@@ -1,35 +1,28 @@
 ghost use Rattle.std.specs.Prelude.{◌≡◌, ℕ, ◌<◌, false};
-ghost use Rattle.machine.specs.Machine.{step, turn};
+ghost use Rattle.machine.specs.Machine.{begin, step, turn};
 ghost use Rattle.program.specs.declared.program.Program.{Program};
 ghost use Rattle.frames.specs.Trees.{setup, firsts, first_at};
 ghost use Rattle.frames.specs.Stacks.{Room, held};
-ghost use Rattle.frames.specs.declared.data.Stage.TheVariants.{Going, Comparing};
-ghost use Rattle.frames.specs.Views.{AtRest, Carries, Handed, Ok, Rounded, Sound, arrival, carry, opening, pair_arrival, view};
+ghost use Rattle.frames.specs.declared.data.Stage.TheVariants.{Going};
+ghost use Rattle.frames.specs.Views.{judgement as judged};
+ghost use Rattle.frames.specs.Views.{AtRest, Carries, Handed, JudgementOk, Ok, Opening, Rounded, Sound, arrival, carry, frames, view};
 
 use battery::{Stop, Value};
+use cells::Values;
 use constructs::{compare, rule};
-use frames::{Frame, Given, Job, Move, Part, Run, Stage, Verdict, Wait};
+use frames::{Frame, Given, Job, Judgement, Move, Part, Run, Stage, Verdict, Wait};
 use program::Program;
 use stores::Store;
 use table::{Head, Pair};
 
-fn arrive(units: u32, job: Job) -> Stage
-    ensures { result ≡ arrival units job }
+// A judgement is to be opened, unless all units are spent.
+fn arrive(units: u32, judgement: Judgement) -> Stage
+    ensures { result ≡ arrival units judgement }
 {
     if units >= 1_000_000 {
-        Stage::Ended(Stop::Overrun(job.at))
+        Stage::Ended(Err(Stop::Overrun(judgement.at())))
     } else {
-        Stage::Going(job)
-    }
-}
-
-fn arrive_pair(units: u32, pair: frames::Pair) -> Stage
-    ensures { result ≡ pair_arrival units pair }
-{
-    if units >= 1_000_000 {
-        Stage::Ended(Stop::Overrun(pair.at))
-    } else {
-        Stage::Comparing(pair)
+        Stage::Going(judgement)
     }
 }
 
@@ -42,7 +35,7 @@ fn hand<S: Store>(run: &mut Run<S>, v: Value) -> bool
     match run.stack.give(v) {
         Given::Goes => true,
         Given::Done => {
-            run.stage = Stage::Gave(v);
+            run.stage = Stage::Ended(Ok(v));
             false
         }
         Given::Halts(at) => {
@@ -59,43 +52,34 @@ fn round<S: Store>(program: &Program, run: &mut Run<S>) -> bool
     ensures does { Rounded S.Store.cells S.Store.limit program.now run.old run.new result }
 {
     match run.stack.part(program) {
-        Part::Next(job) => {
-            run.stage = arrive(run.units, job);
+        Some(Part::Next(judgement)) => {
+            run.stage = arrive(run.units, judgement);
             false
         }
-        Part::Whole(w) => match rule(program, &mut run.entries, &w, &mut run.store) {
-            Move::Gives(v) => {
+        Some(Part::Whole(w)) => match rule(program, &mut run.entries, &w, &mut run.store) {
+            Some(Move::Gives(v)) => {
                 run.stack.pop();
                 hand(run, v)
             }
-            Move::Stops(x) => {
-                run.stage = Stage::Ended(x);
+            Some(Move::Stops(stop)) => {
+                run.stage = Stage::Ended(Err(stop));
                 false
             }
-            Move::Goes(job) => {
+            Some(Move::Goes(judgement)) => {
                 run.stack.pass();
-                run.stage = arrive(run.units, job);
+                run.stage = arrive(run.units, judgement);
                 false
             }
-            Move::Compares(pair) => {
-                run.stack.pass();
-                run.stage = arrive_pair(run.units, pair);
-                false
-            }
-            Move::Stuck => {
+            None => {
                 run.stage = Stage::Stuck(w.job.at);
                 false
             }
         },
-        Part::Compare(pair) => {
-            run.stage = arrive_pair(run.units, pair);
-            false
-        }
-        Part::Equal => {
+        Some(Part::Equal) => {
             run.stack.pop();
             hand(run, Value::Boolean(true))
         }
-        Part::Nothing => {
+        None => {
             run.stage = Stage::Stuck(0);
             false
         }
@@ -138,60 +122,59 @@ fn first_place(at: u16, head: Option<Head>) -> u16
 // The frame of a judgement that is opened.
 fn opened(program: &Program, job: Job) -> Wait
     requires { job.at < 512 }
-    ensures { result ≡ opening program.now job }
+    ensures { Opening program.now job result }
 {
     let head = program.head(job.at);
     Wait {
         job,
         next: first_place(job.at, head),
         left: first_parts(head),
-        have: 0,
-        values: [Value::Unit; 4],
+        values: Values::new(),
+    }
+}
+
+// A judgement that was just opened goes on.
+fn enter<S: Store>(program: &Program, run: &mut Run<S>, judgement: Judgement)
+    requires ok { JudgementOk program.now (held run.old.stack) judgement }
+    requires shallow { run.old.stack.count < 256 }
+    ensures most { S.Store.limit run.new.store ≡ S.Store.limit run.old.store }
+    ensures does { view S.Store.cells program.now run.new ≡ begin (setup program.now (S.Store.limit run.old.store)) (judged program.now run.old.entries judgement) (frames program.now run.old.entries (held run.old.stack)) run.old.units (S.Store.cells run.old.store) }
+    ensures sound { Sound program.now run.new }
+{
+    match judgement {
+        Judgement::Of(job) => {
+            run.stack.push(Frame::Waits(opened(program, job)));
+            settle(program, run);
+        }
+        Judgement::Same(pair) => match compare(&run.store, pair) {
+            Some(Verdict::Is(b)) => {
+                if hand(run, Value::Boolean(b)) {
+                    settle(program, run);
+                }
+            }
+            Some(Verdict::Fields(q)) => {
+                run.stack.push(Frame::Compares(q));
+                settle(program, run);
+            }
+            None => run.stage = Stage::Stuck(pair.at),
+        },
     }
 }
 
 // Opens a judgement.
-fn open<S: Store>(program: &Program, run: &mut Run<S>, job: Job)
-    requires { (Sound program.now run.old) × (run.old.stage ≡ Going job) }
+fn open<S: Store>(program: &Program, run: &mut Run<S>, judgement: Judgement)
+    requires sound { Sound program.now run.old }
+    requires going { run.old.stage ≡ Going judgement }
     ensures most { S.Store.limit run.new.store ≡ S.Store.limit run.old.store }
     ensures does { view S.Store.cells program.now run.new ≡ step (setup program.now (S.Store.limit run.old.store)) (view S.Store.cells program.now run.old) }
     ensures sound { Sound program.now run.new }
 {
     run.units += 1; // also where it is too deep
     if run.stack.count == 256 {
-        run.stage = Stage::Ended(Stop::TooDeep(job.at));
+        run.stage = Stage::Ended(Err(Stop::TooDeep(judgement.at())));
         return;
     }
-    run.stack.push(Frame::Waits(opened(program, job)));
-    settle(program, run);
-}
-
-// Opens a comparison.
-fn open_pair<S: Store>(program: &Program, run: &mut Run<S>, pair: frames::Pair)
-    requires { (Sound program.now run.old) × (run.old.stage ≡ Comparing pair) }
-    ensures most { S.Store.limit run.new.store ≡ S.Store.limit run.old.store }
-    ensures does { view S.Store.cells program.now run.new ≡ step (setup program.now (S.Store.limit run.old.store)) (view S.Store.cells program.now run.old) }
-    ensures sound { Sound program.now run.new }
-{
-    run.units += 1;
-    if run.stack.count == 256 {
-        run.stage = Stage::Ended(Stop::TooDeep(pair.at));
-        return;
-    }
-    match compare(&run.store, pair) {
-        Verdict::Is(b) => {
-            if hand(run, Value::Boolean(b)) {
-                settle(program, run);
-            }
-        }
-        Verdict::Fields(q) => {
-            run.stack.push(Frame::Compares(q));
-            settle(program, run);
-        }
-        Verdict::Unlike => {
-            run.stage = Stage::Stuck(pair.at);
-        }
-    }
+    enter(program, run, judgement);
 }
 
 // Opens what is to be opened, and says whether there was any.
@@ -203,15 +186,11 @@ fn step_once<S: Store>(program: &Program, run: &mut Run<S>) -> bool
     ensures rest { result ≡ false → AtRest run.new.stage }
 {
     match run.stage {
-        Stage::Going(job) => {
-            open(program, run, job);
+        Stage::Going(judgement) => {
+            open(program, run, judgement);
             true
         }
-        Stage::Comparing(pair) => {
-            open_pair(program, run, pair);
-            true
-        }
-        _ => false,
+        Stage::Ended(_) | Stage::Stuck(_) => false,
     }
 }
 
@@ -222,11 +201,9 @@ pub fn advance<S: Store>(program: &Program, run: &mut Run<S>, units: u16)
     ensures does { view S.Store.cells program.now run.new ≡ turn (setup program.now (S.Store.limit run.old.store)) units (view S.Store.cells program.now run.old) }
     ensures sound { Sound program.now run.new }
 {
-    let mut left = units;
-    while left > 0 {
+    for _ in 0..units {
         if !step_once(program, run) {
             return;
         }
-        left -= 1;
     }
 }

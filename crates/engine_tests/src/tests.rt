@@ -1,49 +1,39 @@
 ghost use Rattle.frames.specs.Views.{Sound};
 
 use crate::cards::every;
-use battery::{Stop, Value};
+use battery::{Outcome, Stop, Value};
 use card::worked_card;
 use cells::{Cell, EnumValue, Text, Values};
-use engine::{advance, begin, idle};
+use engine::{NotBegun, advance, begin, idle};
+use expect::check_eq;
 use frames::{Run, Stage};
 use program::Program;
-use expect::{check, check_eq};
 use std::test::Fail;
 use stores::{Pair, Plain, Store};
 
-// How a run stands: ending (9 while it goes on), record, value, units spent and cells held.
-#[derive(Drop)]
+#[derive(Clone, Copy, PartialEq, Debug)]
+enum Ending {
+    Going,
+    Ended(Outcome),
+    Stuck(u16),
+}
+
+// How a run stands, with the units spent and the cells held.
+#[derive(Clone, Copy, PartialEq, Debug)]
 struct Stands {
-    ending: u8,
-    record: u16,
-    value: Value,
+    ending: Ending,
     units: u32,
     cells: u16,
 }
 
-fn stopped(stop: Stop) -> (u8, u16, Value) {
-    match stop {
-        Stop::Exit(record, text) => (1, record, text),
-        Stop::ZeroDivisor(record) => (2, record, Value::Unit),
-        Stop::OutOfRange(record) => (3, record, Value::Unit),
-        Stop::TooLong(record) => (4, record, Value::Unit),
-        Stop::FullStore(record) => (5, record, Value::Unit),
-        Stop::TooDeep(record) => (6, record, Value::Unit),
-        Stop::Overrun(record) => (7, record, Value::Unit),
-    }
-}
-
 fn standing<S: Store>(run: &Run<S>) -> Stands {
-    let (ending, record, value) = match run.stage {
-        Stage::Gave(value) => (0, 0, value),
-        Stage::Ended(stop) => stopped(stop),
-        Stage::Stuck(record) => (8, record, Value::Unit),
-        Stage::Going(_) | Stage::Comparing(_) => (9, 0, Value::Unit),
+    let ending = match run.stage {
+        Stage::Going(_) => Ending::Going,
+        Stage::Ended(outcome) => Ending::Ended(outcome),
+        Stage::Stuck(record) => Ending::Stuck(record),
     };
     Stands {
         ending,
-        record,
-        value,
         units: run.units,
         cells: run.store.len(),
     }
@@ -57,14 +47,6 @@ fn turns<S: Store>(program: &Program, run: &mut Run<S>, count: u32, units: u16)
     for _ in 0..count {
         advance(program, run, units);
     }
-}
-
-fn same(a: &Stands, b: &Stands) -> Result<(), Fail> {
-    check_eq(a.ending, b.ending)?;
-    check_eq(a.record, b.record)?;
-    check(a.value == b.value)?;
-    check_eq(a.units, b.units)?;
-    check_eq(a.cells, b.cells)
 }
 
 // A function with its arguments, the text that the store holds before, and how the run ends.
@@ -102,11 +84,11 @@ fn runs<S: Store + Drop>(
     units: u16,
 ) -> Result<(), Fail> {
     let mut run = idle(prepared(store, call));
-    if !begin(program, &mut run, call.function, &call.args) {
-        return Err(Fail::new("not begun"));
+    if let Err(why) = begin(program, &mut run, call.function, &call.args) {
+        return Err(Fail::new(format_args!("{why:?}")));
     }
     turns(program, &mut run, count, units);
-    same(&standing(&run), &call.ends)
+    check_eq(standing(&run), call.ends)
 }
 
 // Over a plain store and a pair, at once and one unit at a time.
@@ -162,21 +144,25 @@ fn on_text(function: u16, number: Option<i32>, text: &[u8], ends: Stands) -> Cal
     }
 }
 
-fn gave(value: Value, units: u32, cells: u16) -> Stands {
+fn ended(outcome: Outcome, units: u32, cells: u16) -> Stands {
     Stands {
-        ending: 0,
-        record: 0,
-        value,
+        ending: Ending::Ended(outcome),
         units,
         cells,
     }
 }
 
-fn ended(ending: u8, record: u16, units: u32, cells: u16) -> Stands {
+fn gave(value: Value, units: u32, cells: u16) -> Stands {
+    ended(Ok(value), units, cells)
+}
+
+fn stopped(stop: Stop, units: u32, cells: u16) -> Stands {
+    ended(Err(stop), units, cells)
+}
+
+fn going(units: u32, cells: u16) -> Stands {
     Stands {
-        ending,
-        record,
-        value: Value::Unit,
+        ending: Ending::Going,
         units,
         cells,
     }
@@ -211,25 +197,19 @@ fn every_ending(rt: HostRuntime) -> Result<(), Fail> {
         &card,
         &on_text(0, Some(49999), b"", gave(Value::Place(1), 6, 2)),
     )?;
-    holds(&card, &on_nothing(1, ended(2, 22, 3, 0)))?;
-    holds(&card, &on_nothing(2, ended(3, 28, 3, 0)))?;
+    holds(&card, &on_nothing(1, stopped(Stop::ZeroDivisor(22), 3, 0)))?;
+    holds(&card, &on_nothing(2, stopped(Stop::OutOfRange(28), 3, 0)))?;
     holds(
         &card,
         &on_text(3, None, b"Muckle Flugg", gave(Value::Place(1), 3, 2)),
     )?;
     holds(
         &card,
-        &on_text(3, None, b"Muckle Flugga", ended(4, 35, 3, 1)),
+        &on_text(3, None, b"Muckle Flugga", stopped(Stop::TooLong(35), 3, 1)),
     )?;
-    let exit = Stands {
-        ending: 1,
-        record: 41,
-        value: Value::Place(0),
-        units: 2,
-        cells: 1,
-    };
+    let exit = stopped(Stop::Exit(41, Value::Place(0)), 2, 1);
     holds(&card, &on_nothing(4, exit))?;
-    holds(&card, &on_nothing(5, ended(6, 47, 257, 0)))
+    holds(&card, &on_nothing(5, stopped(Stop::TooDeep(47), 257, 0)))
 }
 
 // Calls in calls, and an overrun in the midst of them; a value made, taken apart and compared.
@@ -237,7 +217,10 @@ fn every_ending(rt: HostRuntime) -> Result<(), Fail> {
 fn long_runs(rt: HostRuntime) -> Result<(), Fail> {
     let card = program(&every(rt.alloc())?)?;
     holds(&card, &on_number(6, 3, gave(Value::Number(8), 131, 0)))?;
-    holds(&card, &on_number(6, 16, ended(7, 53, 1_000_000, 0)))?;
+    holds(
+        &card,
+        &on_number(6, 16, stopped(Stop::Overrun(53), 1_000_000, 0)),
+    )?;
     holds(&card, &on_number(7, 5, gave(Value::Number(1), 21, 5)))?;
     holds(&card, &on_number(7, -5, gave(Value::Number(-1), 21, 5)))
 }
@@ -247,7 +230,7 @@ fn long_runs(rt: HostRuntime) -> Result<(), Fail> {
 fn full_store() -> Result<(), Fail> {
     let k = program(&worked_card())?;
     let mut slots = [blank(); 1];
-    let call = on_text(0, Some(30000), b"Spit", ended(5, 13, 6, 1));
+    let call = on_text(0, Some(30000), b"Spit", stopped(Stop::FullStore(13), 6, 1));
     runs(&k, Plain::new(&mut slots), &call, 1, 6)?;
     runs(&k, Plain::new(&mut slots), &call, 6, 1)
 }
@@ -257,9 +240,9 @@ fn full_store() -> Result<(), Fail> {
 fn pauses() -> Result<(), Fail> {
     let k = program(&worked_card())?;
     let mut slots = [blank(); 9];
-    let call = on_text(0, Some(30000), b"Spit", ended(9, 0, 4, 1));
+    let call = on_text(0, Some(30000), b"Spit", going(4, 1));
     runs(&k, Plain::new(&mut slots), &call, 1, 4)?;
-    let call = on_text(0, Some(30000), b"Spit", ended(9, 0, 0, 1));
+    let call = on_text(0, Some(30000), b"Spit", going(0, 1));
     runs(&k, Plain::new(&mut slots), &call, 3, 0)
 }
 
@@ -269,7 +252,9 @@ fn not_begun(rt: HostRuntime) -> Result<(), Fail> {
     let k = program(&worked_card())?;
     let mut slots = [blank(); 1];
     let mut run = idle(Plain::new(&mut slots));
-    assert!(rt; !begin(&k, &mut run, 1, &values(Some(1), Some(0))));
-    assert!(rt; !begin(&k, &mut run, 0, &values(Some(1), None)));
+    let begun = begin(&k, &mut run, 1, &values(Some(1), Some(0)));
+    assert_eq!(rt; begun, Err(NotBegun::NoFunction));
+    let begun = begin(&k, &mut run, 0, &values(Some(1), None));
+    assert_eq!(rt; begun, Err(NotBegun::OtherCount));
     Ok(())
 }

@@ -1,6 +1,7 @@
 ghost use Rattle.std.specs.Prelude.{◌≤◌};
 
-use battery::{Stop, Value};
+use battery::{Outcome, Stop, Value};
+use cells::Values;
 use scope::Entry;
 
 // An expression to be evaluated: its place, and the part of the entries that is its scope.
@@ -11,17 +12,6 @@ pub struct Job {
     pub height: u16,
 }
 
-// An open judgement that waits for its first parts: the next part's place, how many are left, and
-// the values so far.
-#[derive(Clone, Copy)]
-pub struct Wait {
-    pub job: Job,
-    pub next: u16,
-    pub left: u8,
-    pub have: u8,
-    pub values: [Value; 4],
-}
-
 // Two values that the EQ of a record compares.
 #[derive(Clone, Copy)]
 pub struct Pair {
@@ -30,22 +20,37 @@ pub struct Pair {
     pub other: Value,
 }
 
-// An open comparison of fields: the next pair's index, and how many are left.
+// What a judgement is of: an expression, or two values that are compared.
+#[derive(Clone, Copy)]
+pub enum Judgement {
+    Of(Job),
+    Same(Pair),
+}
+
+// An open judgement that waits for its first parts: the next part's place, how many are left, and
+// the values so far.
+#[derive(Clone, Copy)]
+pub struct Wait {
+    pub job: Job,
+    pub next: u16,
+    pub left: u8,
+    pub values: Values,
+}
+
+// An open comparison of fields, pair by pair as far as both have one: the next pair's index.
 #[derive(Clone, Copy)]
 pub struct Pairs {
     pub at: u16,
-    pub next: u8,
-    pub left: u8,
-    pub ones: [Value; 4],
-    pub others: [Value; 4],
+    pub next: usize,
+    pub ones: Values,
+    pub others: Values,
 }
 
-// What comparing two values leads to: an answer, their fields, or nothing where they are unlike.
+// What comparing two values leads to: an answer, or their fields.
 #[derive(Clone, Copy)]
 pub enum Verdict {
     Is(bool),
     Fields(Pairs),
-    Unlike,
 }
 
 // What came of giving a value to the open frames: the newest goes on, none is left, or one has no
@@ -66,7 +71,7 @@ pub enum Frame {
     Compares(Pairs),
 }
 
-// The first `count` are open, the newest last.
+// The first `count` are open, the newest last: it is changed in place.
 #[derive(Drop)]
 pub struct Stack {
     pub frames: [Frame; 256],
@@ -74,14 +79,12 @@ pub struct Stack {
     ghost few: { count ≤ 256 },
 }
 
-// The newest frame's next part, or the whole frame where none is left.
+// The newest frame's next part; the whole frame, or equal fields, where none is left.
 #[derive(Clone, Copy)]
 pub enum Part {
-    Next(Job),
+    Next(Judgement),
     Whole(Wait),
-    Compare(Pair),
     Equal,
-    Nothing,
 }
 
 // What a rule does once the first parts have their values.
@@ -89,18 +92,14 @@ pub enum Part {
 pub enum Move {
     Gives(Value),
     Stops(Stop),
-    Goes(Job),
-    Compares(Pair),
-    Stuck,
+    Goes(Judgement),
 }
 
-// Where a run stands: about to open an expression or a comparison, ended, or stuck at a record.
+// Where a run stands: about to open a judgement, ended, or stuck at a record.
 #[derive(Clone, Copy)]
 pub enum Stage {
-    Going(Job),
-    Comparing(Pair),
-    Gave(Value),
-    Ended(Stop),
+    Going(Judgement),
+    Ended(Outcome),
     Stuck(u16),
 }
 

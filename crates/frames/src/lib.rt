@@ -1,6 +1,9 @@
 #![tactic(auto)]
 
 mod data;
+mod frame;
 mod stack;
 
-pub use data::{Frame, Given, Job, Move, Pair, Pairs, Part, Run, Stack, Stage, Verdict, Wait};
+pub use data::{
+    Frame, Given, Job, Judgement, Move, Pair, Pairs, Part, Run, Stack, Stage, Verdict, Wait,
+};

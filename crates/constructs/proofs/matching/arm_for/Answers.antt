@@ -6,17 +6,14 @@ use Rattle.program.specs.Views.{tokens_in, text_in}
 use Rattle.constructs.proofs.Armed.{armed, unarmed, arm_hit, arm_miss, arm_found, next_arms}
 use Rattle.constructs.proofs.matching.arm_for.Goals as goal
 
-pub overflow_add-result : goal.overflow_add-result
-overflow_add-result c = let h = (armed c.args.program.now c.loop-arm.place c.in-Some.arm c.loop-arm.invariant.0 c.in-Some.ensures).within in omega arith
+pub overflow_add-part : goal.overflow_add-part
+overflow_add-part c = let h = (armed c.args.program.now c.loop-arm.place c.in-Some.arm c.loop-arm.invariant.0 c.in-Some.ensures).within in omega arith
 
 pub returns-then-case-arm : goal.returns-then-case-arm
 returns-then-case-arm c =
     let k = c.args.program.now in
     let h = armed k c.loop-arm.place c.in-Some.arm c.loop-arm.invariant.0 c.in-Some.ensures in
     arm_found k c.loop-arm.place c.in-Some.arm _ h (sym c.loop-arm.invariant.1 ∙ arm_hit k c.loop-arm.place c.args.case c.in-Some.arm h c.if-case-arm.true)
-
-pub overflow_add-place : goal.overflow_add-place
-overflow_add-place c = let h = (armed c.args.program.now c.loop-arm.place c.in-Some.arm c.loop-arm.invariant.0 c.in-Some.ensures).within in omega arith
 
 pub loop-arm-smaller : goal.loop-arm-smaller
 loop-arm-smaller c =

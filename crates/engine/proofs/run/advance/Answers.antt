@@ -1,28 +1,32 @@
-use Rattle.std.proofs.Common.{◌≡◌, ◌-◌, sym, refl, ap, ◌∙◌, subst}
-use Rattle.machine.specs.Machine.{turn, step}
+use Rattle.std.proofs.Common.{◌≡◌, ◌+◌, ◌-◌, sym, refl, ◌∙◌, arith}
 use Rattle.frames.specs.Trees.{setup}
 use Rattle.frames.specs.Stacks.{held}
 use Rattle.frames.specs.Views.{view}
-use Rattle.engine.proofs.Carries.{rests, turn_less}
+use Rattle.engine.proofs.Openings.{rests, turned}
 use Rattle.engine.proofs.run.advance.Goals as goal
 
-pub returns-then-not-step_once : goal.returns-then-not-step_once
-returns-then-not-step_once g c =
-    let S = setup c.args.program.now (g.S.Store.limit c.args.run.now.store) in
-    let e = subst (λ m. view g.S.Store.cells c.args.program.now c.step_once.new.run ≡ step (setup c.args.program.now m) (view g.S.Store.cells c.args.program.now c.loop-left.run)) c.loop-left.invariant.1 c.step_once.ensures.does in
+pub returns-then-not-step_once-clause-does : goal.returns-then-not-step_once-clause-does
+returns-then-not-step_once-clause-does g c =
+    let k = c.args.program.now in
+    let r = c.step_once.new.run in
+    let S = setup k (g.S.Store.limit c.args.run.now.store) in
+    let e = rw c.loop.invariant.most at c.step_once.ensures.does in
     let a = c.if-not-step_once.ensures.rest refl in
-    let r = rests c.args.program.now c.step_once.new.run.entries (held c.step_once.new.run.stack) c.step_once.new.run.units (g.S.Store.limit c.args.run.now.store) (g.S.Store.cells c.step_once.new.run.store) c.step_once.new.run.stage a.0 a.1 (c.loop-left.left - 1) in
+    sym (rests k r.entries (held r.stack) r.units (g.S.Store.limit c.args.run.now.store) (g.S.Store.cells r.store) r.stage a (c.args.units - (c.loop.counter + 1)))
+    ∙ turned S c.loop.counter c.args.units (view g.S.Store.cells k c.loop.run) _ c.loop-test.true e ∙ c.loop.invariant.does
+
+pub loop-preserved : goal.loop-preserved
+loop-preserved g c =
+    let k = c.args.program.now in
+    let S = setup k (g.S.Store.limit c.args.run.now.store) in
+    let e = rw c.loop.invariant.most at c.step_once.ensures.does in
     record {
-      most = c.step_once.ensures.most ∙ c.loop-left.invariant.1;
       sound = c.step_once.ensures.sound;
-      does = sym r ∙ ap (turn S (c.loop-left.left - 1)) e ∙ sym (turn_less S c.loop-left.left (view g.S.Store.cells c.args.program.now c.loop-left.run) c.loop-left-test.true) ∙ c.loop-left.invariant.2;
+      most = c.step_once.ensures.most ∙ c.loop.invariant.most;
+      does = turned S c.loop.counter c.args.units (view g.S.Store.cells k c.loop.run) _ c.loop-test.true e ∙ c.loop.invariant.does;
     }
 
-pub loop-left-preserved : goal.loop-left-preserved
-loop-left-preserved g c =
-    let S = setup c.args.program.now (g.S.Store.limit c.args.run.now.store) in
-    let e = subst (λ m. view g.S.Store.cells c.args.program.now c.step_once.new.run ≡ step (setup c.args.program.now m) (view g.S.Store.cells c.args.program.now c.loop-left.run)) c.loop-left.invariant.1 c.step_once.ensures.does in (
-      c.step_once.ensures.sound,
-      c.step_once.ensures.most ∙ c.loop-left.invariant.1,
-      ap (turn S (c.loop-left.left - 1)) e ∙ sym (turn_less S c.loop-left.left (view g.S.Store.cells c.args.program.now c.loop-left.run) c.loop-left-test.true) ∙ c.loop-left.invariant.2,
-    )
+pub returns-clause-does : goal.returns-clause-does
+returns-clause-does g c =
+    let n : c.args.units - c.loop.counter ≡ 0 = omega arith in
+    rw n at c.loop.invariant.does

@@ -1,131 +1,58 @@
-use Rattle.std.proofs.Common.{◌≡◌, ◌<◌, true, ◌∷◌, length, sym, refl, ap, ◌∙◌, subst, arith}
-use Rattle.frames.specs.declared.data.Frame.TheVariants.{Passes}
-use Rattle.frames.specs.Stacks.{held, below, Room}
+use Rattle.std.proofs.Common.{true, ◌∷◌, ap, ◌∙◌, arith}
 use Rattle.battery.specs.declared.value.Value.TheVariants.{Boolean as boolean_v}
-use Rattle.machine.specs.Machine.{resume}
-use Rattle.frames.specs.Trees.{setup}
-use Rattle.frames.specs.Views.{Ok, frames, carry}
-use Rattle.engine.proofs.Carries.{length_newest, ok_room, next_done, no_part, whole, ready, gives_on, rule_stops, rule_stuck, goes_done, pairs_done, compare_done, equal, hand_rounds, next_fits}
+use Rattle.frames.specs.declared.data.Frame.TheVariants.{Passes}
+use Rattle.frames.specs.Stacks.{held, below}
+use Rattle.engine.proofs.Levels.{length_newest, ok_room}
+use Rattle.engine.proofs.Carries.{whole, ready, equal, next_done, rule_gives, rule_stuck, rule_goes, popped}
 use Rattle.engine.proofs.run.round.Goals as goal
 
-pub part-requires : goal.part-requires
-part-requires g c = next_fits c.args.program.now (held c.args.run.now.stack) c.requires
+pub returns-in-Some-Next-clause-does : goal.returns-in-Some-Next-clause-does
+returns-in-Some-Next-clause-does g c =
+    let e = rw c.in-Some-Next.field-0-is at c.in-Some-Next.ensures.told in
+    next_done c.args.program.now c.args.run.now.entries (held c.args.run.now.stack) (held c.part.new.self) c.args.run.now.units (g.S.Store.limit c.args.run.now.store) (g.S.Store.cells c.args.run.now.store) c.in-Some-Next.judgement c.arrive-run.result c.requires e c.part.ensures.list c.arrive-run.ensures
 
 pub rule-requires : goal.rule-requires
 rule-requires g c =
-    let f = whole c.args.program.now (held c.args.run.now.stack) c.in-Whole.w c.requires c.in-Whole.ensures.told in
     let n = length_newest c.args.run.now.stack.frames c.args.run.now.stack.count in
-    let m = c.args.run.now.stack.few in
-    ready c.args.program.now (held c.args.run.now.stack) c.in-Whole.w f (omega arith)
+    let few = c.args.run.now.stack.few in
+    ready c.args.program.now (held c.args.run.now.stack) c.in-Some-Whole.w (whole c.args.program.now (held c.args.run.now.stack) c.in-Some-Whole.w c.requires (rw c.in-Some-Whole.field-0-is at c.in-Some-Whole.ensures.told)) (omega arith)
 
 pub hand-requires : goal.hand-requires
 hand-requires g c =
-    let f = whole c.args.program.now (held c.args.run.now.stack) c.in-Whole.w c.requires c.in-Whole.ensures.told in
+    let f = whole c.args.program.now (held c.args.run.now.stack) c.in-Some-Whole.w c.requires (rw c.in-Some-Whole.field-0-is at c.in-Some-Whole.ensures.told) in
     let p = c.pop.ensures ∙ ap below (c.part.ensures.list ∙ f.same) in
-    subst Room (sym p) (ok_room c.args.program.now (below (held c.args.run.now.stack)) c.in-Whole.w.job.height f.rest)
+    rw p (ok_room c.args.program.now (below (held c.args.run.now.stack)) c.in-Some-Whole.w.job.height f.rest)
 
-pub returns-in-Gives : goal.returns-in-Gives
-returns-in-Gives g c =
-    let f = whole c.args.program.now (held c.args.run.now.stack) c.in-Whole.w c.requires c.in-Whole.ensures.told in
+pub returns-in-Some-Gives-clause-does : goal.returns-in-Some-Gives-clause-does
+returns-in-Some-Gives-clause-does g c =
+    let f = whole c.args.program.now (held c.args.run.now.stack) c.in-Some-Whole.w c.requires (rw c.in-Some-Whole.field-0-is at c.in-Some-Whole.ensures.told) in
     let p = c.pop.ensures ∙ ap below (c.part.ensures.list ∙ f.same) in
-    let e = gives_on c.args.program.now c.args.run.now.entries c.rule.new.entries (held c.args.run.now.stack) c.in-Whole.w c.args.run.now.units (g.S.Store.limit c.args.run.now.store)
-    (g.S.Store.cells c.args.run.now.store) (g.S.Store.cells c.rule.new.store) c.in-Gives.v f c.in-Gives.ensures.does in
-    let a = length_newest c.args.run.now.stack.frames c.args.run.now.stack.count in
-    let b = length_newest c.pop.new.self.frames c.pop.new.self.count in
-    let n = ap length p in
-    let lg = f.long in
-    let lt : c.pop.new.self.count < c.args.run.now.stack.count = omega arith in
-    let h = c.hand.ensures.does c.args.program.now (g.S.Store.limit c.args.run.now.store) c.in-Whole.w.job.height
-    (subst (λ x. Ok c.args.program.now x c.in-Whole.w.job.height) (sym p) f.rest) in
-    record {
-      most = ap g.S.Store.limit c.hand.ensures.store ∙ c.rule.ensures.most;
-      does = hand_rounds g.S.Store.cells g.S.Store.limit c.args.program.now c.args.run.now (record { stack = c.pop.new.self; entries = c.rule.new.entries; stage = c.args.run.now.stage; units = c.args.run.now.units; store = c.rule.new.store }) c.hand.new.run c.in-Gives.v c.hand.result h
-          (subst (λ x. resume (setup c.args.program.now (g.S.Store.limit c.args.run.now.store)) (frames c.args.program.now c.rule.new.entries x) c.in-Gives.v c.args.run.now.units (g.S.Store.cells c.rule.new.store)
-          ≡ carry c.args.program.now (setup c.args.program.now (g.S.Store.limit c.args.run.now.store)) c.args.run.now.entries (held c.args.run.now.stack) c.args.run.now.units (g.S.Store.cells c.args.run.now.store)) (sym p) e)
-          lt;
-    }
+    let d = rw c.in-Some-Gives.v-is at c.hand.ensures.does in
+    let e = rule_gives c.args.program.now c.args.run.now.entries c.rule.new.entries (held c.args.run.now.stack) c.in-Some-Whole.w c.args.run.now.units (g.S.Store.limit c.args.run.now.store) (g.S.Store.cells c.args.run.now.store) (g.S.Store.cells c.rule.new.store) f c.in-Some-Gives.v (rw c.in-Some-Gives.field-0-is at c.in-Some-Gives.ensures.does) in
+    popped g.S.Store.cells g.S.Store.limit c.args.program.now c.args.run.now (record { stack = c.pop.new.self; entries = c.rule.new.entries; stage = c.args.run.now.stage; units = c.args.run.now.units; store = c.rule.new.store }) c.hand.new.run c.in-Some-Gives.v c.hand.result
+    c.in-Some-Whole.w.job.height p f.long f.rest e d
 
-pub returns-in-Compares : goal.returns-in-Compares
-returns-in-Compares g c =
-    let f = whole c.args.program.now (held c.args.run.now.stack) c.in-Whole.w c.requires c.in-Whole.ensures.told in
-    let p = c.pass-in-Compares.ensures ∙ ap (λ x. Passes ∷ below x) (c.part.ensures.list ∙ f.same) in
-    record {
-      most = c.rule.ensures.most;
-      does = pairs_done c.args.program.now c.args.run.now.entries c.rule.new.entries (held c.args.run.now.stack) (held c.pass-in-Compares.new.self) c.in-Whole.w c.args.run.now.units (g.S.Store.limit c.args.run.now.store)
-          (g.S.Store.cells c.args.run.now.store) (g.S.Store.cells c.rule.new.store) c.in-Compares.pair c.arrive_pair-run.result f c.in-Compares.ensures.does p c.arrive_pair-run.ensures;
-    }
-
-pub returns-in-Compare : goal.returns-in-Compare
-returns-in-Compare g c =
-    record {
-      most = refl;
-      does = compare_done c.args.program.now c.args.run.now.entries (held c.args.run.now.stack) (held c.part.new.self) c.args.run.now.units (g.S.Store.limit c.args.run.now.store) (g.S.Store.cells c.args.run.now.store)
-          c.in-Compare.pair c.arrive_pair-run-in-Compare.result c.requires c.in-Compare.ensures.told c.part.ensures.list c.arrive_pair-run-in-Compare.ensures;
-    }
-
-pub hand-requires-in-Equal : goal.hand-requires-in-Equal
-hand-requires-in-Equal g c =
-    let f = equal c.args.program.now (held c.args.run.now.stack) c.requires c.in-Equal.ensures.told in
-    let p = c.pop-in-Equal.ensures ∙ ap below (c.part.ensures.list ∙ f.same) in
-    subst Room (sym p) (ok_room c.args.program.now (below (held c.args.run.now.stack)) f.height f.rest)
-
-pub returns-in-Equal : goal.returns-in-Equal
-returns-in-Equal g c =
-    let f = equal c.args.program.now (held c.args.run.now.stack) c.requires c.in-Equal.ensures.told in
-    let p = c.pop-in-Equal.ensures ∙ ap below (c.part.ensures.list ∙ f.same) in
-    let e = f.does c.args.run.now.entries c.args.run.now.units (g.S.Store.limit c.args.run.now.store) (g.S.Store.cells c.args.run.now.store) in
-    let a = length_newest c.args.run.now.stack.frames c.args.run.now.stack.count in
-    let b = length_newest c.pop-in-Equal.new.self.frames c.pop-in-Equal.new.self.count in
-    let n = ap length p in
-    let lg = f.long in
-    let lt : c.pop-in-Equal.new.self.count < c.args.run.now.stack.count = omega arith in
-    let h = c.hand-in-Equal.ensures.does c.args.program.now (g.S.Store.limit c.args.run.now.store) f.height (subst (λ x. Ok c.args.program.now x f.height) (sym p) f.rest) in
-    record {
-      most = ap g.S.Store.limit c.hand-in-Equal.ensures.store;
-      does = hand_rounds g.S.Store.cells g.S.Store.limit c.args.program.now c.args.run.now (record { stack = c.pop-in-Equal.new.self; entries = c.args.run.now.entries; stage = c.args.run.now.stage; units = c.args.run.now.units; store = c.args.run.now.store }) c.hand-in-Equal.new.run (boolean_v true) c.hand-in-Equal.result h
-          (subst (λ x. resume (setup c.args.program.now (g.S.Store.limit c.args.run.now.store)) (frames c.args.program.now c.args.run.now.entries x) (boolean_v true) c.args.run.now.units (g.S.Store.cells c.args.run.now.store)
-          ≡ carry c.args.program.now (setup c.args.program.now (g.S.Store.limit c.args.run.now.store)) c.args.run.now.entries (held c.args.run.now.stack) c.args.run.now.units (g.S.Store.cells c.args.run.now.store)) (sym p) e)
-          lt;
-    }
-
-pub returns-in-Next : goal.returns-in-Next
-returns-in-Next g c =
-    let n = next_done c.args.program.now c.args.run.now.entries (held c.args.run.now.stack) (held c.part.new.self) c.args.run.now.units (g.S.Store.limit c.args.run.now.store) (g.S.Store.cells c.args.run.now.store)
-    c.in-Next.job c.arrive-run.result c.requires c.in-Next.ensures.told c.part.ensures.list c.arrive-run.ensures in
-    record { most = refl; does = n }
-
-pub returns-in-Stops : goal.returns-in-Stops
-returns-in-Stops g c =
-    let f = whole c.args.program.now (held c.args.run.now.stack) c.in-Whole.w c.requires c.in-Whole.ensures.told in
-    record {
-      most = c.rule.ensures.most;
-      does = (
-        rule_stops c.args.program.now c.args.run.now.entries c.rule.new.entries (held c.args.run.now.stack) c.in-Whole.w c.args.run.now.units (g.S.Store.limit c.args.run.now.store)
-            (g.S.Store.cells c.args.run.now.store) (g.S.Store.cells c.rule.new.store) c.in-Stops.x f c.in-Stops.ensures.does,
-        tt,
-      );
-    }
-
-pub returns-in-Goes : goal.returns-in-Goes
-returns-in-Goes g c =
-    let f = whole c.args.program.now (held c.args.run.now.stack) c.in-Whole.w c.requires c.in-Whole.ensures.told in
+pub returns-in-Some-Goes-clause-does : goal.returns-in-Some-Goes-clause-does
+returns-in-Some-Goes-clause-does g c =
+    let f = whole c.args.program.now (held c.args.run.now.stack) c.in-Some-Whole.w c.requires (rw c.in-Some-Whole.field-0-is at c.in-Some-Whole.ensures.told) in
     let p = c.pass.ensures ∙ ap (λ x. Passes ∷ below x) (c.part.ensures.list ∙ f.same) in
-    let n = goes_done c.args.program.now c.args.run.now.entries c.rule.new.entries (held c.args.run.now.stack) (held c.pass.new.self) c.in-Whole.w c.args.run.now.units (g.S.Store.limit c.args.run.now.store)
-    (g.S.Store.cells c.args.run.now.store) (g.S.Store.cells c.rule.new.store) c.in-Goes.job c.arrive-run-in-Goes.result f c.in-Goes.ensures.does p c.arrive-run-in-Goes.ensures in
-    record { most = c.rule.ensures.most; does = n }
+    let a = rw c.in-Some-Goes.judgement-is at c.arrive-run-in-Some-Goes.ensures in
+    rule_goes c.args.program.now c.args.run.now.entries c.rule.new.entries (held c.args.run.now.stack) c.in-Some-Whole.w c.args.run.now.units (g.S.Store.limit c.args.run.now.store) (g.S.Store.cells c.args.run.now.store) (g.S.Store.cells c.rule.new.store) f (held c.pass.new.self) c.in-Some-Goes.judgement c.arrive-run-in-Some-Goes.result (rw c.in-Some-Goes.field-0-is at c.in-Some-Goes.ensures.does) p a
 
-pub returns-in-Stuck : goal.returns-in-Stuck
-returns-in-Stuck g c =
-    let f = whole c.args.program.now (held c.args.run.now.stack) c.in-Whole.w c.requires c.in-Whole.ensures.told in
-    record {
-      most = c.rule.ensures.most;
-      does = (
-        rule_stuck c.args.program.now c.args.run.now.entries c.rule.new.entries (held c.args.run.now.stack) c.in-Whole.w c.args.run.now.units (g.S.Store.limit c.args.run.now.store)
-            (g.S.Store.cells c.args.run.now.store) (g.S.Store.cells c.rule.new.store) f c.in-Stuck.ensures.does,
-        tt,
-      );
-    }
+pub returns-in-None-rule-clause-does : goal.returns-in-None-rule-clause-does
+returns-in-None-rule-clause-does g c =
+    let f = whole c.args.program.now (held c.args.run.now.stack) c.in-Some-Whole.w c.requires (rw c.in-Some-Whole.field-0-is at c.in-Some-Whole.ensures.told) in
+    (rule_stuck c.args.program.now c.args.run.now.entries c.rule.new.entries (held c.args.run.now.stack) c.in-Some-Whole.w c.args.run.now.units (g.S.Store.limit c.args.run.now.store) (g.S.Store.cells c.args.run.now.store) (g.S.Store.cells c.rule.new.store) f c.in-None-rule.ensures.does, tt)
 
-pub returns-in-Nothing : goal.returns-in-Nothing
-returns-in-Nothing g c =
-    record { most = refl; does = (no_part c.args.program.now c.args.run.now.entries (held c.args.run.now.stack) c.args.run.now.units _ (g.S.Store.cells c.args.run.now.store) c.in-Nothing.ensures.told, tt) }
+pub hand-requires-in-Some-Equal : goal.hand-requires-in-Some-Equal
+hand-requires-in-Some-Equal g c =
+    let f = equal c.args.program.now (held c.args.run.now.stack) c.requires (rw c.in-Some-Equal.field-0-is at c.in-Some-Equal.ensures.told) in
+    let p = c.pop-in-Some-Equal.ensures ∙ ap below (c.part.ensures.list ∙ f.same) in
+    rw p (ok_room c.args.program.now (below (held c.args.run.now.stack)) f.height f.rest)
+
+pub returns-in-Some-Equal-clause-does : goal.returns-in-Some-Equal-clause-does
+returns-in-Some-Equal-clause-does g c =
+    let f = equal c.args.program.now (held c.args.run.now.stack) c.requires (rw c.in-Some-Equal.field-0-is at c.in-Some-Equal.ensures.told) in
+    let p = c.pop-in-Some-Equal.ensures ∙ ap below (c.part.ensures.list ∙ f.same) in
+    popped g.S.Store.cells g.S.Store.limit c.args.program.now c.args.run.now (record { stack = c.pop-in-Some-Equal.new.self; entries = c.args.run.now.entries; stage = c.args.run.now.stage; units = c.args.run.now.units; store = c.args.run.now.store }) c.hand-in-Some-Equal.new.run (boolean_v true) c.hand-in-Some-Equal.result
+    f.height p f.long f.rest (f.does c.args.run.now.entries c.args.run.now.units (g.S.Store.limit c.args.run.now.store) (g.S.Store.cells c.args.run.now.store)) c.hand-in-Some-Equal.ensures.does

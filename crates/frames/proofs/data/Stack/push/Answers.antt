@@ -1,6 +1,6 @@
-use Rattle.std.proofs.Common.{refl, arith}
+use Rattle.std.proofs.Common.{arith}
 use Rattle.frames.proofs.Newest.{newest_push}
 use Rattle.frames.proofs.data.Stack.push.Goals as goal
 
-pub returns : goal.returns
-returns c = record { list = newest_push c.args.self.now.frames c.args.self.now.count c.args.f (omega arith); count = refl }
+pub returns-clause-list : goal.returns-clause-list
+returns-clause-list c = newest_push c.args.self.now.frames c.args.self.now.count c.args.f (omega arith)
