@@ -1,5 +1,5 @@
 -- What a cell of the code means: a cell of the rules.
-use Rattle.std.specs.Prelude.{ℕ, List}
+use Rattle.std.specs.Prelude.{ℕ, List, []}
 use Rattle.battery.specs.declared.value.Value.{Value}
 use Rattle.battery.specs.Cell as rules
 use Rattle.few.specs.declared.items.Few.{Few}
@@ -18,3 +18,7 @@ values_of v = listed v
 abbrev pub meaning : Cell → rules.Cell
 meaning (of_text t) = rules.text_cell (text_of t)
 meaning (of_enum v) = rules.enum_cell v.of v.case (values_of v.fields)
+
+-- the value of case 0 of enum 0, which has no fields
+abbrev pub blank : rules.Cell
+blank = rules.enum_cell 0 0 []

@@ -1,5 +1,5 @@
 ghost use Rattle.std.specs.Prelude.{◌≡◌, Decides};
-ghost use Rattle.cells.specs.Meaning.{meaning};
+ghost use Rattle.cells.specs.Meaning.{meaning, blank};
 ghost use Rattle.cells.specs.Same.{same_cell};
 ghost use Rattle.cells.specs.Means.{same_cell_laws};
 
@@ -13,7 +13,7 @@ pub type Text = Few<u8, 24>;
 pub type Values = Few<Value, 4>;
 
 // A value of an enum: its case and fields.
-#[derive(Clone, Copy)]
+#[derive(Clone, Copy, Default)]
 pub struct EnumValue {
     pub of: u16,
     pub case: u8,
@@ -24,6 +24,15 @@ pub struct EnumValue {
 pub enum Cell {
     Text(Text),
     Enum(EnumValue),
+}
+
+// An enum value of no fields: what a run of cells is filled with before any is put.
+impl Default for Cell {
+    ghost is_default = { λ cell. meaning cell ≡ blank };
+
+    fn default() -> Cell {
+        Cell::Enum(EnumValue::default())
+    }
 }
 
 // Cells are equal when they mean the same, whatever lies in the bytes and fields that are not used.

@@ -3,7 +3,7 @@ ghost use Rattle.frames.specs.Views.{Sound};
 use crate::cards::every;
 use battery::{Outcome, Stop, Value};
 use card::worked_card;
-use cells::{Cell, EnumValue, Text, Values};
+use cells::{Cell, Text, Values};
 use engine::{NotBegun, advance, begin, idle};
 use expect::check_eq;
 use frames::{Run, Stage};
@@ -58,14 +58,6 @@ struct Call {
     ends: Stands,
 }
 
-fn blank() -> Cell {
-    Cell::Enum(EnumValue {
-        of: 0,
-        case: 0,
-        fields: Values::new(),
-    })
-}
-
 // The store with the call's text as its only cell.
 fn prepared<S: Store>(mut store: S, call: &Call) -> S {
     store.empty();
@@ -93,10 +85,10 @@ fn runs<S: Store + Drop>(
 
 // Over a plain store and a pair, at once and one unit at a time.
 fn holds(program: &Program, call: &Call) -> Result<(), Fail> {
-    let mut slots = [blank(); 9];
+    let mut slots = [Cell::default(); 9];
     runs(program, Plain::new(&mut slots), call, 16, 65535)?;
     runs(program, Plain::new(&mut slots), call, 1_000_001, 1)?;
-    let (mut low, mut high) = ([blank(); 1], [blank(); 8]);
+    let (mut low, mut high) = ([Cell::default(); 1], [Cell::default(); 8]);
     let pair = Pair::new(Plain::new(&mut low), Plain::new(&mut high));
     runs(program, pair, call, 16, 65535)?;
     let pair = Pair::new(Plain::new(&mut low), Plain::new(&mut high));
@@ -229,7 +221,7 @@ fn long_runs(rt: HostRuntime) -> Result<(), Fail> {
 #[test]
 fn full_store() -> Result<(), Fail> {
     let k = program(&worked_card())?;
-    let mut slots = [blank(); 1];
+    let mut slots = [Cell::default(); 1];
     let call = on_text(0, Some(30000), b"Spit", stopped(Stop::FullStore(13), 6, 1));
     runs(&k, Plain::new(&mut slots), &call, 1, 6)?;
     runs(&k, Plain::new(&mut slots), &call, 6, 1)
@@ -239,7 +231,7 @@ fn full_store() -> Result<(), Fail> {
 #[test]
 fn pauses() -> Result<(), Fail> {
     let k = program(&worked_card())?;
-    let mut slots = [blank(); 9];
+    let mut slots = [Cell::default(); 9];
     let call = on_text(0, Some(30000), b"Spit", going(4, 1));
     runs(&k, Plain::new(&mut slots), &call, 1, 4)?;
     let call = on_text(0, Some(30000), b"Spit", going(0, 1));
@@ -250,7 +242,7 @@ fn pauses() -> Result<(), Fail> {
 #[test]
 fn not_begun(rt: HostRuntime) -> Result<(), Fail> {
     let k = program(&worked_card())?;
-    let mut slots = [blank(); 1];
+    let mut slots = [Cell::default(); 1];
     let mut run = idle(Plain::new(&mut slots));
     let begun = begin(&k, &mut run, 1, &values(Some(1), Some(0)));
     assert_eq!(rt; begun, Err(NotBegun::NoFunction));

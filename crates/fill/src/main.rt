@@ -61,16 +61,7 @@ impl fmt::Display for Field {
 }
 
 fn text(bytes: &[u8]) -> Cell {
-    Text::of(bytes).map_or_else(blank, Cell::Text)
-}
-
-// An enum value of no fields.
-fn blank() -> Cell {
-    Cell::Enum(EnumValue {
-        of: 0,
-        case: 0,
-        fields: Values::new(),
-    })
+    Text::of(bytes).map(Cell::Text).unwrap_or_default()
 }
 
 // An enum value of case 1 on the cell at a place.
@@ -127,8 +118,12 @@ fn fill<S: Store>(rt: &impl Print, store: &mut S) -> io::Result<()> {
 }
 
 fn main(rt: HostRuntime) -> io::Result<()> {
-    let (mut a, mut b, mut c) = ([blank(); 2], [blank(); 0], [blank(); 1]);
-    let (mut d, mut e) = ([blank(); 1], [blank(); 2]);
+    let (mut a, mut b, mut c) = (
+        [Cell::default(); 2],
+        [Cell::default(); 0],
+        [Cell::default(); 1],
+    );
+    let (mut d, mut e) = ([Cell::default(); 1], [Cell::default(); 2]);
     let inner = Pair::new(Plain::new(&mut a), Plain::new(&mut b));
     let first = Pair::new(inner, Plain::new(&mut c));
     let second = Pair::new(Plain::new(&mut d), Plain::new(&mut e));
