@@ -92,7 +92,7 @@ impl Frame {
             Frame::Passes => None,
             Frame::Waits(w) => match w.step(program) {
                 Some(job) => Some(Part::Next(Judgement::Of(job))),
-                None => Some(Part::Whole(*w)),
+                None => Some(Part::Whole(w.job.at)),
             },
             Frame::Compares(q) => match q.step() {
                 Some(pair) => Some(Part::Next(Judgement::Same(pair))),

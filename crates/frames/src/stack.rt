@@ -1,9 +1,10 @@
 ghost use Rattle.std.specs.Prelude.{◌≡◌, ◌+◌, ◌<◌, [], ◌∷◌};
-ghost use Rattle.frames.specs.Stacks.{Room, Took, below, held, outcome};
+ghost use Rattle.frames.specs.Stacks.{Room, Took, below, held, outcome, waiting_in};
+ghost use Rattle.std.specs.Option.{option_map};
 ghost use Rattle.frames.specs.Views.{part_of, parted};
 ghost use Rattle.frames.specs.declared.data.Frame.TheVariants.{Passes};
 
-use crate::data::{Frame, Given, Part, Stack};
+use crate::data::{Frame, Given, Part, Stack, Wait};
 use battery::Value;
 use program::Program;
 
@@ -52,6 +53,16 @@ impl Stack {
             }
         }
         Given::Done
+    }
+
+    // The newest frame, if it waits for its first parts.
+    pub fn waiting(&self) -> Option<&Wait>
+        ensures { option_map (λ w. w.now) result ≡ waiting_in (held self.now) }
+    {
+        match &self.frames[self.count.checked_sub(1)?] {
+            Frame::Waits(w) => Some(w),
+            _ => None,
+        }
     }
 
     // The newest frame's next part, behind which it goes.
