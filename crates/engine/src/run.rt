@@ -165,8 +165,8 @@ fn enter<S: Store>(program: &Program, run: &mut Run<S>, judgement: Judgement)
                     settle(program, run);
                 }
             }
-            Some(Verdict::Fields(q)) => {
-                run.stack.push(Frame::Compares(q));
+            Some(Verdict::Fields(pairs)) => {
+                run.stack.push(Frame::Compares(pairs));
                 settle(program, run);
             }
             None => run.stage = Stage::Stuck(pair.at),

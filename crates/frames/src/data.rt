@@ -41,7 +41,7 @@ pub struct Wait {
 #[derive(Clone, Copy)]
 pub struct Pairs {
     pub at: u16,
-    pub next: usize,
+    pub next: u8,
     pub ones: Values,
     pub others: Values,
 }

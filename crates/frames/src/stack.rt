@@ -15,12 +15,12 @@ impl Stack {
         self.count = 0;
     }
 
-    pub fn push(&mut self, f: Frame)
+    pub fn push(&mut self, frame: Frame)
         requires { self.old.count < 256 }
-        ensures list { held self.new ≡ f ∷ held self.old }
+        ensures list { held self.new ≡ frame ∷ held self.old }
         ensures count { self.new.count ≡ self.old.count + 1 }
     {
-        self.frames[self.count] = f;
+        self.frames[self.count] = frame;
         self.count += 1;
     }
 
@@ -60,7 +60,7 @@ impl Stack {
         ensures { option_map (λ w. w.now) result ≡ waiting_in (held self.now) }
     {
         match &self.frames[self.count.checked_sub(1)?] {
-            Frame::Waits(w) => Some(w),
+            Frame::Waits(wait) => Some(wait),
             _ => None,
         }
     }

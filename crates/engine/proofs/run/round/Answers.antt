@@ -1,8 +1,7 @@
-use Rattle.std.proofs.Common.{◌≡◌, ◌<◌, true, ◌∷◌, length, sym, ap, ◌∙◌, subst, arith}
+use Rattle.std.proofs.Common.{true, ◌∷◌, ap, ◌∙◌, arith}
 use Rattle.battery.specs.declared.value.Value.TheVariants.{Boolean as boolean_v}
 use Rattle.frames.specs.declared.data.Frame.TheVariants.{Passes}
-use Rattle.frames.specs.Stacks.{held, below, Room}
-use Rattle.frames.specs.Views.{Ok}
+use Rattle.frames.specs.Stacks.{held, below}
 use Rattle.engine.proofs.Levels.{length_newest, ok_room}
 use Rattle.engine.proofs.Carries.{whole, readied, waits_there, equal, next_done, rule_gives, rule_stuck, rule_goes, popped}
 use Rattle.engine.proofs.run.round.Goals as goal
