@@ -26,7 +26,7 @@ use Rattle.frames.specs.declared.data.Stage.{Stage}
 use Rattle.frames.specs.declared.data.Stage.TheVariants.{Going, Ended}
 use Rattle.frames.specs.declared.data.Part.TheVariants.{Next, Whole, Equal}
 use Rattle.frames.specs.Trees.{Starts, setup}
-use Rattle.frames.specs.Stacks.{held, vals, outcome, below, Took}
+use Rattle.frames.specs.Stacks.{held, vals, outcome, below, Took, waiting_in}
 use Rattle.frames.specs.Views.{Rounded, judgement, judged_for, paired, pairs_of, handed, Handed, frames, stage, carry, stepped, part_job, next_of, pair_of, past, job_or, pair_or, part_of, parted, JobOk, WaitOk, Ok, Carries, JudgementOk, StageOk, move, LeadsTo, Did, Ready, arrival}
 use Rattle.frames.proofs.Layers.{within, firsts_of_lem}
 use Rattle.engine.proofs.Levels.{length_newest, ok_weaken, frames_agree}
@@ -112,35 +112,42 @@ module _ (k : Program) where
     pub rest : Ok k (below l) w.job.height
     pub long : length l ≡ suc (length (below l))
 
-  whole_by : (l : List Frame) (v w : Wait) (n : ℕ) → v.left ≡ n → Some (Whole w) ≡ Some (job_or v (next_of n (part_job v)))
-      → (v ≡ w) × (v.left ≡ 0) × (Waits (past (next_of n (part_job v)) v (stepped k v)) ∷ l ≡ Waits v ∷ l)
-  whole_by l v w zero e p = (cc, e, refl)
-  whole_by l v w (suc n) e p = absurd (cc)
+  pub record WholeAt (l : List Frame) (p : ℕ) : Type 0 where
+    pub wait : Wait
+    pub frame : WholeFrame l wait
+    pub at : wait.job.at ≡ p
 
-  not_whole : (w : Wait) (p : ℕ) (ps : List (Value × Value)) → ¬ (Some (Whole w) ≡ Some (pair_or (pair_of p ps)))
-  not_whole w p [] e = cc
-  not_whole w p (x ∷ ps) e = cc
+  whole_by : (l : List Frame) (w : Wait) (p n : ℕ) → w.left ≡ n → Some (Whole p) ≡ Some (job_or w (next_of n (part_job w)))
+      → (w.job.at ≡ p) × (w.left ≡ 0) × (Waits (past (next_of n (part_job w)) w (stepped k w)) ∷ l ≡ Waits w ∷ l)
+  whole_by l w p zero e q = (cc, e, refl)
+  whole_by l w p (suc n) e q = absurd (cc)
 
-  pub whole : (l : List Frame) (w : Wait) → Carries k l → Some (Whole w) ≡ part_of l → WholeFrame l w
-  whole [] w o e = absurd (cc)
-  whole (Passes ∷ l) w o e = absurd (cc)
-  whole (Waits v ∷ l) w o e =
-      let q = whole_by l v w v.left refl e in
-      let s = q.0 in
-      record {
-        is = ap (λ x. Waits x ∷ l) s;
-        none_left = subst (λ (x : Wait). x.left ≡ 0) s q.1;
-        same = q.2;
-        ok = subst (λ x. WaitOk k (length l) x) s o.0;
-        rest = subst (λ (x : Wait). Ok k l x.job.height) s o.1;
-        long = refl;
-      }
-  whole (Compares q ∷ l) w o e = absurd (not_whole w q.at (pairs_of q) e)
+  not_whole : (p n : ℕ) (ps : List (Value × Value)) → ¬ (Some (Whole p) ≡ Some (pair_or (pair_of n ps)))
+  not_whole p n [] e = cc
+  not_whole p n (x ∷ ps) e = cc
 
-  pub ready : (l : List Frame) (w : Wait) → WholeFrame l w → length l ≤ 256 → Ready k w
+  pub whole : (l : List Frame) (p : ℕ) → Carries k l → Some (Whole p) ≡ part_of l → WholeAt l p
+  whole [] p o e = absurd (cc)
+  whole (Passes ∷ l) p o e = absurd (cc)
+  whole (Waits w ∷ l) p o e =
+      let q = whole_by l w p w.left refl e in
+      record { wait = w; frame = record { is = refl; none_left = q.1; same = q.2; ok = o.0; rest = o.1; long = refl }; at = q.0 }
+  whole (Compares q ∷ l) p o e = absurd (not_whole p q.at (pairs_of q) e)
+
+  ready : (l : List Frame) (w : Wait) → WholeFrame l w → length l ≤ 256 → Ready k w
   ready l w f h =
       let j = f.ok.job in let lo = j.low in let lg = f.long in
       record { start = j.start; small = within k w.job.at j.start; based = j.based; low = omega arith }
+
+  -- the whole frame is the one that waits, and its rule may be applied
+  pub waits_there : (l l' : List Frame) (w : Wait) → WholeFrame l w → l' ≡ parted k l → waiting_in l' ≡ Some w
+  waits_there l l' w f e = ap waiting_in (e ∙ f.same ∙ f.is)
+
+  pub readied : (l l' : List Frame) (p : ℕ) → WholeAt l p → l' ≡ parted k l → length l ≤ 256 → (w : Wait) → waiting_in l' ≡ Some w → Ready k w
+  readied l l' p f e h w q =
+      let t = waits_there l l' f.wait f.frame e in
+      let s : f.wait ≡ w = cc in
+      subst (Ready k) s (ready l f.wait f.frame h)
 
   -- what carrying on a whole frame comes to
   module _ (es es' : List (Entry Value)) (l : List Frame) (w : Wait) (u most : ℕ) (cs cs' : List Cell) (f : WholeFrame l w) where

@@ -1,11 +1,12 @@
-ghost use Rattle.std.specs.Prelude.{◌≡◌, ℕ, ◌<◌, false};
+ghost use Rattle.std.specs.Prelude.{◌≡◌, ℕ, ◌<◌, false, Some};
 ghost use Rattle.machine.specs.Machine.{begin, step, turn};
 ghost use Rattle.program.specs.declared.program.Program.{Program};
 ghost use Rattle.frames.specs.Trees.{setup, firsts, first_at};
-ghost use Rattle.frames.specs.Stacks.{Room, held};
+ghost use Rattle.frames.specs.Stacks.{Room, held, waiting_in};
+ghost use Rattle.frames.specs.declared.data.Wait.{Wait};
 ghost use Rattle.frames.specs.declared.data.Stage.TheVariants.{Going};
 ghost use Rattle.frames.specs.Views.{judgement as judged};
-ghost use Rattle.frames.specs.Views.{AtRest, Carries, Handed, JudgementOk, Ok, Opening, Rounded, Sound, arrival, carry, frames, view};
+ghost use Rattle.frames.specs.Views.{AtRest, Carries, Did, Handed, JudgementOk, Ok, Opening, Ready, Rounded, Sound, arrival, carry, frames, view};
 
 use battery::{Stop, Value};
 use cells::Values;
@@ -45,6 +46,18 @@ fn hand<S: Store>(run: &mut Run<S>, v: Value) -> bool
     }
 }
 
+// What the rule of the newest frame does.
+fn apply<S: Store>(program: &Program, run: &mut Run<S>) -> Option<Move>
+    requires { (w : Wait) → waiting_in (held run.old.stack) ≡ Some w → Ready program.now w }
+    ensures most { S.Store.limit run.new.store ≡ S.Store.limit run.old.store }
+    ensures does { (w : Wait) → waiting_in (held run.old.stack) ≡ Some w → Did program.now (S.Store.limit run.old.store) w run.old.entries run.new.entries (S.Store.cells run.old.store) (S.Store.cells run.new.store) result }
+    ensures frames { run.new.stack ≡ run.old.stack }
+    ensures units { run.new.units ≡ run.old.units }
+{
+    let wait = run.stack.waiting()?;
+    rule(program, &mut run.entries, wait, &mut run.store)
+}
+
 // The newest frame goes on by one part, or by its rule.
 fn round<S: Store>(program: &Program, run: &mut Run<S>) -> bool
     requires { Carries program.now (held run.old.stack) }
@@ -56,7 +69,7 @@ fn round<S: Store>(program: &Program, run: &mut Run<S>) -> bool
             run.stage = arrive(run.units, judgement);
             false
         }
-        Some(Part::Whole(w)) => match rule(program, &mut run.entries, &w, &mut run.store) {
+        Some(Part::Whole(at)) => match apply(program, run) {
             Some(Move::Gives(v)) => {
                 run.stack.pop();
                 hand(run, v)
@@ -71,7 +84,7 @@ fn round<S: Store>(program: &Program, run: &mut Run<S>) -> bool
                 false
             }
             None => {
-                run.stage = Stage::Stuck(w.job.at);
+                run.stage = Stage::Stuck(at);
                 false
             }
         },
@@ -152,8 +165,8 @@ fn enter<S: Store>(program: &Program, run: &mut Run<S>, judgement: Judgement)
                     settle(program, run);
                 }
             }
-            Some(Verdict::Fields(q)) => {
-                run.stack.push(Frame::Compares(q));
+            Some(Verdict::Fields(pairs)) => {
+                run.stack.push(Frame::Compares(pairs));
                 settle(program, run);
             }
             None => run.stage = Stage::Stuck(pair.at),

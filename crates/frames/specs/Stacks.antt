@@ -1,5 +1,5 @@
 -- The open frames as a list, the newest first.
-use Rattle.std.specs.Prelude.{◌≡◌, ℕ, zero, suc, ◌<◌, true, false, List, [], ◌∷◌, ◌++◌, length, slice_index_or}
+use Rattle.std.specs.Prelude.{◌≡◌, ℕ, zero, suc, ◌<◌, true, false, List, [], ◌∷◌, ◌++◌, length, Some, None, Option, slice_index_or}
 use Rattle.battery.specs.declared.value.Value.{Value}
 use Rattle.battery.specs.declared.value.Value.TheVariants.{Unit as unit_v, Number as number_v, Boolean as boolean_v, Place as place_v}
 use Rattle.cells.specs.Meaning.{values_of}
@@ -65,6 +65,13 @@ or_later (Halts p) later = Halts p
 abbrev pub outcome : List Frame → Value → Given
 outcome [] v = Done
 outcome (f ∷ l) v = or_later (taken f v) (outcome l v)
+
+-- the newest frame, if it waits
+abbrev pub waiting_in : List Frame → Option Wait
+waiting_in [] = None
+waiting_in (Passes ∷ l) = None
+waiting_in (Waits w ∷ l) = Some w
+waiting_in (Compares q ∷ l) = None
 
 abbrev pub below : List Frame → List Frame
 below [] = []

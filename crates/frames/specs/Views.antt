@@ -118,7 +118,7 @@ past_pair q = past (next_pair q) q (paired q)
 
 -- the newest frame's next part, and the frames past it
 abbrev pub job_or : Wait → Option Job → Part
-job_or w None = Whole w
+job_or w None = Whole w.job.at
 job_or w (Some j) = Next (Of j)
 
 abbrev pub pair_or : Option Pair → Part

@@ -41,7 +41,7 @@ pub struct Wait {
 #[derive(Clone, Copy)]
 pub struct Pairs {
     pub at: u16,
-    pub next: usize,
+    pub next: u8,
     pub ones: Values,
     pub others: Values,
 }
@@ -79,11 +79,12 @@ pub struct Stack {
     ghost few: { count ≤ 256 },
 }
 
-// The newest frame's next part; the whole frame, or equal fields, where none is left.
+// The newest frame's next part; where none is left, the frame of this record is whole, or all the
+// fields that it compares are equal.
 #[derive(Clone, Copy)]
 pub enum Part {
     Next(Judgement),
-    Whole(Wait),
+    Whole(u16),
     Equal,
 }
 

@@ -51,8 +51,9 @@ impl Pairs {
         ensures told { result ≡ next_pair self.old }
         ensures now { self.new ≡ past_pair self.old }
     {
-        let one = *self.ones.as_slice().get(self.next)?;
-        let other = *self.others.as_slice().get(self.next)?;
+        let next = self.next as usize;
+        let one = *self.ones.as_slice().get(next)?;
+        let other = *self.others.as_slice().get(next)?;
         self.next += 1;
         Some(Pair {
             at: self.at,
@@ -71,14 +72,14 @@ impl Frame {
     {
         match self {
             Frame::Passes => Given::Done,
-            Frame::Waits(w) => {
-                w.give(v);
+            Frame::Waits(wait) => {
+                wait.give(v);
                 Given::Goes
             }
-            Frame::Compares(q) => match v {
+            Frame::Compares(pairs) => match v {
                 Value::Boolean(true) => Given::Goes,
                 Value::Boolean(false) => Given::Done,
-                Value::Unit | Value::Number(_) | Value::Place(_) => Given::Halts(q.at),
+                Value::Unit | Value::Number(_) | Value::Place(_) => Given::Halts(pairs.at),
             },
         }
     }
@@ -90,11 +91,11 @@ impl Frame {
     {
         match self {
             Frame::Passes => None,
-            Frame::Waits(w) => match w.step(program) {
+            Frame::Waits(wait) => match wait.step(program) {
                 Some(job) => Some(Part::Next(Judgement::Of(job))),
-                None => Some(Part::Whole(*w)),
+                None => Some(Part::Whole(wait.job.at)),
             },
-            Frame::Compares(q) => match q.step() {
+            Frame::Compares(pairs) => match pairs.step() {
                 Some(pair) => Some(Part::Next(Judgement::Same(pair))),
                 None => Some(Part::Equal),
             },

@@ -1,9 +1,10 @@
 ghost use Rattle.std.specs.Prelude.{◌≡◌, ◌+◌, ◌<◌, [], ◌∷◌};
-ghost use Rattle.frames.specs.Stacks.{Room, Took, below, held, outcome};
+ghost use Rattle.frames.specs.Stacks.{Room, Took, below, held, outcome, waiting_in};
+ghost use Rattle.std.specs.Option.{option_map};
 ghost use Rattle.frames.specs.Views.{part_of, parted};
 ghost use Rattle.frames.specs.declared.data.Frame.TheVariants.{Passes};
 
-use crate::data::{Frame, Given, Part, Stack};
+use crate::data::{Frame, Given, Part, Stack, Wait};
 use battery::Value;
 use program::Program;
 
@@ -14,12 +15,12 @@ impl Stack {
         self.count = 0;
     }
 
-    pub fn push(&mut self, f: Frame)
+    pub fn push(&mut self, frame: Frame)
         requires { self.old.count < 256 }
-        ensures list { held self.new ≡ f ∷ held self.old }
+        ensures list { held self.new ≡ frame ∷ held self.old }
         ensures count { self.new.count ≡ self.old.count + 1 }
     {
-        self.frames[self.count] = f;
+        self.frames[self.count] = frame;
         self.count += 1;
     }
 
@@ -52,6 +53,16 @@ impl Stack {
             }
         }
         Given::Done
+    }
+
+    // The newest frame, if it waits for its first parts.
+    pub fn waiting(&self) -> Option<&Wait>
+        ensures { option_map (λ w. w.now) result ≡ waiting_in (held self.now) }
+    {
+        match &self.frames[self.count.checked_sub(1)?] {
+            Frame::Waits(wait) => Some(wait),
+            _ => None,
+        }
     }
 
     // The newest frame's next part, behind which it goes.
