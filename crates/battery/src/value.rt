@@ -12,6 +12,7 @@ pub enum Value {
     Place(u16),
 }
 
+// By hand: the clause `means` and a must-fail edit stand on it, and a derive has neither.
 impl PartialEq for Value {
     ghost eq = { same_value };
 

@@ -41,6 +41,7 @@ pub enum Layer {
     Types,
 }
 
+// These are by hand, so that a contract can name the fault that `?` makes.
 impl From<Misplaced> for TableFault {
     ghost from_gives = { λ m r. r ≡ of_misplaced m.«record» m.group };
 

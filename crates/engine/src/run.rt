@@ -207,7 +207,7 @@ fn step_once<S: Store>(program: &Program, run: &mut Run<S>) -> bool
     }
 }
 
-// A turn of so many units.
+// A turn of so many units. The program and the run have owners of their own, so no struct holds both.
 pub fn advance<S: Store>(program: &Program, run: &mut Run<S>, units: u16)
     requires { Sound program.now run.old }
     ensures most { S.Store.limit run.new.store ≡ S.Store.limit run.old.store }

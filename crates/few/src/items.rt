@@ -5,7 +5,7 @@ ghost use Rattle.std.specs.Prelude.{◌≡◌, ◌≤◌, length};
 use std::alloc::AllocError;
 
 // At most N items, in order, in the value itself: the first `len` of `items`. What lies behind
-// them means nothing.
+// them means nothing. It can be copied, as the kit's `ArrayVec` cannot.
 pub struct Few<T, const N: usize> {
     items: [T; N],
     len: usize,

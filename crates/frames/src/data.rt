@@ -54,7 +54,7 @@ pub enum Verdict {
 }
 
 // What came of giving a value to the open frames: the newest goes on, none is left, or one has no
-// rule for it.
+// rule for it. Three cases, so no `Result` of a `bool`.
 #[derive(Clone, Copy)]
 pub enum Given {
     Goes,
@@ -71,7 +71,7 @@ pub enum Frame {
     Compares(Pairs),
 }
 
-// The first `count` are open, the newest last: it is changed in place.
+// The first `count` are open, the newest last: it is changed in place, which `Few` does not offer.
 #[derive(Drop)]
 pub struct Stack {
     pub frames: [Frame; 256],

@@ -100,6 +100,7 @@ impl Cursor<'_> {
         Ok(picked)
     }
 
+    // As `expressions` but for the call: what is read by a function passed in needs a relation more.
     fn types(&mut self, n: usize, group: Option<usize>) -> Result<(), Misplaced>
         ensures { Reads self.old (expecting n want_type) group result self.new }
     {

@@ -20,7 +20,8 @@ pub struct Header {
 }
 
 impl Header {
-    // The first test that fails turns the image down.
+    // The first test that fails turns the image down. No `TryFrom`: it would hide the clauses in a
+    // ghost member.
     pub fn of(image: &[u8]) -> Result<Header, ImageFault>
         ensures verdict { MatchResult result (λ h. header_fault image.now ≡ None) (λ f. header_fault image.now ≡ Some f) }
         ensures counts { IfOk result (λ h. (h.records ≡ count_of image.now) × (h.texts ≡ text_of image.now)) }

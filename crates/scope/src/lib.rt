@@ -59,6 +59,7 @@ pub fn bind_all<T: Copy>(
     if values.len() > 65536 || len > room || values.len() > room - len {
         return Err(Full);
     }
+    // Two slices go side by side: a zip over a lent part of the entries would say no more.
     for (i, value) in values.iter().enumerate() {
         entries[len + i] = Entry {
             name: first as u32 + i as u32,

@@ -12,6 +12,7 @@ fn small(c: i32) -> u8
     u8::try_from(c).unwrap_or(0)
 }
 
+// The number of a TYPE becomes a type here, and is seen nowhere else.
 fn type_named(a: u8, b: u16) -> Ty
     ensures { result ≡ type_named a b }
 {

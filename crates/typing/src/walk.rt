@@ -10,6 +10,7 @@ use scope::Entry;
 
 // A walk over a card's records: the place that it has come to, and the names bound there, which are the first `bound`
 // entries. Each record binds four names at most, so that there is room for all that are to come.
+// The bound entries are no `Few`: a walk goes back to an older count.
 #[derive(Drop)]
 pub(crate) struct Walk<'c, 't> {
     card: &'c Layout<'t>,

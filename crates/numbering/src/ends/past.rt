@@ -7,7 +7,8 @@ use super::Filled;
 use table::{Head, Token};
 
 impl Filled<'_, '_> {
-    // Past the last token there is nothing to go on to.
+    // Past the last token there is nothing to go on to. (No `get`: the check does not cover yet that
+    // what a field lends is lent again as a slice.)
     fn look(self, q: u16) -> u16
         ensures { result ≡ behind self.entry q }
     {
