@@ -1,28 +1,35 @@
--- One step of a search from the newest entry back.
-use Rattle.std.proofs.Common.{◌≡◌, ℕ, true, false, cond, eqb, List, [], ◌∷◌, ◌++◌, length, Some, None, sym, ap, ◌∙◌, eq-eqb, ne_eqb, arith}
-use Rattle.battery.specs.Tree.{find}
+-- A search from the newest entry back finds what the scope does.
+use Rattle.std.proofs.Common.{◌≡◌, ℕ, Bool, eqb, List, [], ◌∷◌, reverse, Some, None, Option, sym, ap, ◌∙◌, refl, rules, arith}
+use Rattle.std.specs.Option.{option_map, option_or}
+use Rattle.std.specs.List.{find as first}
+use Rattle.std.proofs.lemmas.List.Folds.{find-append}
+use Rattle.std.proofs.lemmas.Grind.{reverse_onto}
+use Rattle.battery.specs.Tree.{Scope, find}
 use Rattle.scope.specs.declared.Entry.{Entry}
-use Rattle.scope.specs.Bound.{scope_of}
-use Rattle.scope.proofs.Entries.{scope_push}
+use Rattle.scope.specs.Bound.{upon, scope_of}
 
-module _ {T : Type 0} (es : List (Entry T)) (n : ℕ) where
-  -- what is looked for is found in the entries up to e
-  abbrev UpTo : List (Entry T) → Entry T → Type 0
-  UpTo rest e = find (scope_of es) n ≡ find (scope_of (rest ++ e ∷ [])) n
+module _ {T : Type 0} (n : ℕ) where
+  abbrev pub test : Entry T → Bool
+  test e = eqb e.name n
 
-  step : (rest : List (Entry T)) (e : Entry T) → find (scope_of (rest ++ e ∷ [])) n ≡ cond (eqb n e.name) (Some e.value) (find (scope_of rest) n)
-  step rest e = ap (λ s. find s n) (scope_push rest e)
+  abbrev pub value_of : Entry T → T
+  value_of e = e.value
 
-  pub found : (rest : List (Entry T)) (e : Entry T) → UpTo rest e → e.name ≡ n → Some e.value ≡ find (scope_of es) n
-  found rest e inv same =
-      let test : eqb n e.name ≡ true = eq-eqb n e.name (sym same) in
-      sym (inv ∙ step rest e ∙ rw test)
+  last : (r : Option (Entry T)) (e : Entry T) (s : Scope T) → option_or (option_map value_of r) (find ((e.name, e.value) ∷ s) n) ≡ option_or (option_map value_of (option_or r (first test (e ∷ [])))) (find s n)
+  last (Some x) e s = refl
+  last None e s = grind (rules, arith)
 
-  pub missed : (rest : List (Entry T)) (e : Entry T) → UpTo rest e → (e.name ≡ n → ⊥) → find (scope_of es) n ≡ find (scope_of rest) n
-  missed rest e inv other =
-      let test : eqb n e.name ≡ false = ne_eqb n e.name (λ q. other (sym q)) in
-      inv ∙ step rest e ∙ rw test
+  pub back : (es : List (Entry T)) (s : Scope T) → find (upon es s) n ≡ option_or (option_map value_of (first test (reverse es))) (find s n)
+  back [] s = refl
+  back (e ∷ es) s =
+      back es ((e.name, e.value) ∷ s)
+      ∙ last (first test (reverse es)) e s
+      ∙ ap (λ r. option_or (option_map value_of r) (find s n)) (sym (find-append test (reverse es) (e ∷ [])) ∙ ap (first test) (sym (reverse_onto es e [])))
 
-  pub nowhere : (rest : List (Entry T)) → find (scope_of es) n ≡ find (scope_of rest) n → length rest ≡ 0 → None ≡ find (scope_of es) n
-  nowhere [] inv e = sym inv
-  nowhere (x ∷ rest) inv e = absurd (omega arith)
+  none_or : (o : Option T) → option_or o None ≡ o
+  none_or None = refl
+  none_or (Some x) = refl
+
+  -- what the search finds, as a look-up in the scope
+  pub back_all : (es : List (Entry T)) → find (scope_of es) n ≡ option_map value_of (first test (reverse es))
+  back_all es = back es [] ∙ none_or _

@@ -19,12 +19,8 @@ pub struct Full;
 pub fn newest<T: Copy>(entries: &[Entry<T>], name: u32) -> Option<T>
     ensures { result ≡ find (scope_of entries.now) name }
 {
-    for entry in entries.iter().rev() {
-        if entry.name == name {
-            return Some(entry.value);
-        }
-    }
-    None
+    let entry = entries.iter().rev().find(|entry| entry.name == name)?;
+    Some(entry.value)
 }
 
 // Binds one name more behind the first `len` entries; where there is no room, nothing changes.

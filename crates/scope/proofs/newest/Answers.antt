@@ -1,20 +1,19 @@
--- The entry that is looked at is the newest of those left.
-use Rattle.std.proofs.Common.{List, ap, ◌∙◌}
-use Rattle.battery.specs.Tree.{find}
-use Rattle.scope.specs.Bound.{scope_of}
-use Rattle.scope.specs.declared.Entry.{Entry}
-use Rattle.scope.proofs.Backwards.{found, missed, nowhere}
+-- What is found from the back is what the scope has.
+use Rattle.std.proofs.Common.{ap, ◌∙◌, rules}
+use borrow.Author.Tests.{tests}
+use Rattle.std.proofs.lemmas.Iterator.Adapters.{YieldsList-from_rev_slice}
+use Rattle.std.proofs.lemmas.Iterator.Search.{find_from_yields_List}
+use Rattle.scope.proofs.Backwards.{test, back_all}
 use Rattle.scope.proofs.newest.Goals as goal
 
-pub returns-then-entry-name : goal.returns-then-entry-name
-returns-then-entry-name g c =
-    let up = c.loop-entry.invariant ∙ ap (λ (es : List (Entry g.row.T.Denot)). find (scope_of es) c.args.name) c.in-Some.ensures.steps in
-    found c.args.entries.now c.args.name c.next.new.self.iter.rest.now c.in-Some.entry.now up c.if-entry-name.true
-
-pub loop-entry-preserved : goal.loop-entry-preserved
-loop-entry-preserved g c =
-    let up = c.loop-entry.invariant ∙ ap (λ (es : List (Entry g.row.T.Denot)). find (scope_of es) c.args.name) c.in-Some.ensures.steps in
-    missed c.args.entries.now c.args.name c.next.new.self.iter.rest.now c.in-Some.entry.now up c.if-entry-name.false
+pub returns-in_err-entry : goal.returns-in_err-entry
+returns-in_err-entry g c =
+    let f = find_from_yields_List (test c.args.name) c.find.new.self _ c.find.result c.find.ensures.ran (YieldsList-from_rev_slice c.args.entries.now (ap (λ i. i.rest.now) c.rev.ensures.source ∙ c.iter.ensures.rest)) (λ x b q k. search (rules, tests)) in
+    let b = back_all c.args.name c.args.entries.now in
+    grind (f, b, c.in_err-entry.was, c.from_residual.ensures, rules)
 
 pub returns : goal.returns
-returns g c = nowhere c.args.entries.now c.args.name c.loop-entry.entry-iterator.iter.rest.now c.loop-entry.invariant c.in-None.ensures.steps.0
+returns g c =
+    let f = find_from_yields_List (test c.args.name) c.find.new.self _ c.find.result c.find.ensures.ran (YieldsList-from_rev_slice c.args.entries.now (ap (λ i. i.rest.now) c.rev.ensures.source ∙ c.iter.ensures.rest)) (λ x b q k. search (rules, tests)) in
+    let b = back_all c.args.name c.args.entries.now in
+    grind (f, b, c.in_ok-entry.was, rules)
