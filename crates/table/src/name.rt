@@ -77,9 +77,5 @@ pub fn token_of(r: Record) -> Option<Token>
     ensures { result ≡ token_of r }
 {
     let kind = Kind::try_from(r.kind).ok()?;
-    if kind.allows(r) {
-        Some(named(kind, r))
-    } else {
-        None
-    }
+    kind.allows(r).then_some(named(kind, r))
 }
