@@ -28,7 +28,7 @@ pub fn check(image: &[u8]) -> Result<Counts, Fault>
     ensures settled { SettledBy6154 image.now }
 {
     let header = Header::of(image)?;
-    let mut room = [Token::Close; 512];
+    let mut room = [Token::default(); 512];
     let records = header.records;
     read(image, header, &mut room[0..records])
 }

@@ -3,11 +3,12 @@ ghost use Rattle.battery.specs.Tree.{bind};
 ghost use Rattle.frames.specs.Views.{window, Agree};
 
 use battery::Value;
-use scope::{Entry, bind_all};
+use frames::Entries;
+use scope::bind_all;
 
 // Binds the names from `first` on to the values, above a scope; what lies below stays.
 pub(crate) fn bind_above(
-    entries: &mut [Entry<Value>; 1028],
+    entries: &mut Entries,
     base: u16,
     height: u16,
     first: u16,

@@ -7,13 +7,11 @@ ghost use Rattle.constructs.specs.Rules.{RuleOf};
 
 use crate::binding::bind_above;
 use crate::whole::Whole;
-use battery::Value;
-use frames::{Job, Judgement, Move};
-use scope::Entry;
+use frames::{Entries, Job, Judgement, Move};
 
 impl Whole<'_> {
     // CALL: on to the function's body. The callee's scope holds its arguments alone.
-    pub(crate) fn call(&self, entries: &mut [Entry<Value>; 1028], f: u16) -> Option<Move>
+    pub(crate) fn call(&self, entries: &mut Entries, f: u16) -> Option<Move>
         requires { (n : ℕ) × RuleOf self.now.program.now self.now.wait.now (MANY n (CALL f)) }
         ensures { (most : ℕ) (cs : List Cell) → Did self.now.program.now most self.now.wait.now entries.old entries.new cs cs result }
     {

@@ -5,19 +5,13 @@ ghost use Rattle.constructs.specs.Rules.{RuleOf};
 
 use crate::whole::Whole;
 use battery::Value;
-use frames::{Move, Wait};
+use frames::{Entries, Move, Wait};
 use program::Program;
-use scope::Entry;
 use stores::Store;
 use table::{Head, Leaf, Many, Pair};
 
 impl Whole<'_> {
-    fn leaf_rule<S: Store>(
-        &self,
-        entries: &[Entry<Value>; 1028],
-        store: &mut S,
-        leaf: Leaf,
-    ) -> Option<Move>
+    fn leaf_rule<S: Store>(&self, entries: &Entries, store: &mut S, leaf: Leaf) -> Option<Move>
         requires { RuleOf self.now.program.now self.now.wait.now (LEAF leaf) }
         ensures most { S.Store.limit store.new ≡ S.Store.limit store.old }
         ensures does { Did self.now.program.now (S.Store.limit store.old) self.now.wait.now entries.now entries.now (S.Store.cells store.old) (S.Store.cells store.new) result }
@@ -31,12 +25,7 @@ impl Whole<'_> {
         }
     }
 
-    fn pair_rule<S: Store>(
-        &self,
-        entries: &mut [Entry<Value>; 1028],
-        store: &mut S,
-        pair: Pair,
-    ) -> Option<Move>
+    fn pair_rule<S: Store>(&self, entries: &mut Entries, store: &mut S, pair: Pair) -> Option<Move>
         requires { RuleOf self.now.program.now self.now.wait.now (PAIR pair) }
         ensures most { S.Store.limit store.new ≡ S.Store.limit store.old }
         ensures does { Did self.now.program.now (S.Store.limit store.old) self.now.wait.now entries.old entries.new (S.Store.cells store.old) (S.Store.cells store.new) result }
@@ -55,7 +44,7 @@ impl Whole<'_> {
 // What the rule of a frame's expression does, once its first parts have their values.
 pub fn rule<S: Store>(
     program: &Program,
-    entries: &mut [Entry<Value>; 1028],
+    entries: &mut Entries,
     wait: &Wait,
     store: &mut S,
 ) -> Option<Move>

@@ -6,13 +6,12 @@ ghost use Rattle.frames.specs.Views.{Did};
 ghost use Rattle.constructs.specs.Rules.{RuleOf};
 
 use crate::whole::Whole;
-use battery::Value;
-use frames::Move;
-use scope::{Entry, newest};
+use frames::{Entries, Move};
+use scope::newest;
 
 impl Whole<'_> {
     // What the name of a LOCAL is bound to.
-    pub(crate) fn local(&self, entries: &[Entry<Value>; 1028], name: u16) -> Option<Move>
+    pub(crate) fn local(&self, entries: &Entries, name: u16) -> Option<Move>
         requires { RuleOf self.now.program.now self.now.wait.now (LEAF (LOCAL name)) }
         ensures { (most : ℕ) (cs : List Cell) → Did self.now.program.now most self.now.wait.now entries.now entries.now cs cs result }
     {

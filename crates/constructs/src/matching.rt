@@ -11,10 +11,8 @@ use crate::binding::bind_above;
 use crate::lookups::enum_at;
 use crate::values::only;
 use crate::whole::Whole;
-use battery::Value;
-use frames::{Job, Judgement, Move};
+use frames::{Entries, Job, Judgement, Move};
 use program::Program;
-use scope::Entry;
 use stores::Store;
 use table::Arm;
 
@@ -36,11 +34,7 @@ fn arm_for(program: &Program, from: u16, case: u8) -> Option<(Arm, u16)>
 
 impl Whole<'_> {
     // MATCH: the arm of the value's case, with its fields bound.
-    pub(crate) fn matching<S: Store>(
-        &self,
-        entries: &mut [Entry<Value>; 1028],
-        store: &S,
-    ) -> Option<Move>
+    pub(crate) fn matching<S: Store>(&self, entries: &mut Entries, store: &S) -> Option<Move>
         requires { RuleOf self.now.program.now self.now.wait.now MATCH }
         ensures { (most : ℕ) → Did self.now.program.now most self.now.wait.now entries.old entries.new (S.Store.cells store.now) (S.Store.cells store.now) result }
     {

@@ -10,8 +10,7 @@ use crate::numbers::calculated;
 use crate::values::{boolean, both, both_numbers, only};
 use crate::whole::Whole;
 use battery::{Arith, Value};
-use frames::{Job, Judgement, Move, Pair};
-use scope::Entry;
+use frames::{Entries, Job, Judgement, Move, Pair};
 
 impl Whole<'_> {
     // CALC: a number of two numbers.
@@ -72,7 +71,7 @@ impl Whole<'_> {
     }
 
     // VAL: on to the second part, with the name bound to what the first came to.
-    pub(crate) fn val(&self, entries: &mut [Entry<Value>; 1028], name: u16) -> Option<Move>
+    pub(crate) fn val(&self, entries: &mut Entries, name: u16) -> Option<Move>
         requires { RuleOf self.now.program.now self.now.wait.now (PAIR (VAL name)) }
         ensures { (most : ℕ) (cs : List Cell) → Did self.now.program.now most self.now.wait.now entries.old entries.new cs cs result }
     {

@@ -24,10 +24,7 @@ pub fn idle<S: Store>(store: S) -> Run<S>
             frames: [Frame::Passes; 256],
             count: 0,
         },
-        entries: [Entry {
-            name: 0,
-            value: Value::Unit,
-        }; 1028],
+        entries: [Entry::default(); 1028],
         stage: Stage::Ended(Ok(Value::Unit)),
         units: 0,
         store,

@@ -161,10 +161,7 @@ fn going(units: u32, cells: u16) -> Stands {
 }
 
 fn program(image: &[u8]) -> Result<Program, Fail> {
-    match Program::of(image) {
-        Some(program) => Ok(program),
-        None => Err(Fail::new("no card")),
-    }
+    Program::of(image).ok_or_else(|| Fail::new("no card"))
 }
 
 // Card K on 30000 and on 50000.

@@ -104,10 +104,13 @@ pub enum Stage {
     Stuck(u16),
 }
 
+// The names of all frames that are open: each frame sees a window of them.
+pub type Entries = [Entry<Value>; 1028];
+
 #[derive(Drop)]
 pub struct Run<S> {
     pub stack: Stack,
-    pub entries: [Entry<Value>; 1028],
+    pub entries: Entries,
     pub stage: Stage,
     pub units: u32,
     pub store: S,

@@ -5,5 +5,6 @@ mod frame;
 mod stack;
 
 pub use data::{
-    Frame, Given, Job, Judgement, Move, Pair, Pairs, Part, Run, Stack, Stage, Verdict, Wait,
+    Entries, Frame, Given, Job, Judgement, Move, Pair, Pairs, Part, Run, Stack, Stage, Verdict,
+    Wait,
 };

@@ -5,7 +5,7 @@ ghost use Rattle.battery.specs.Tree.{find, bind as bound};
 ghost use Rattle.scope.specs.Bound.{scope_of};
 
 // A name and what it is bound to. Entries stand in the order in which they were bound.
-#[derive(Clone, Copy)]
+#[derive(Clone, Copy, Default)]
 pub struct Entry<T> {
     pub name: u32,
     pub value: T,
@@ -71,10 +71,7 @@ mod tests {
 
     #[test]
     fn newest_of_two(rt: HostRuntime) {
-        let mut entries = [Entry {
-            name: 0,
-            value: 0u8,
-        }; 2];
+        let mut entries = [Entry::<u8>::default(); 2];
         assert_eq!(rt; bind(&mut entries, 0, 3, 1), Ok(()));
         assert_eq!(rt; bind(&mut entries, 1, 3, 2), Ok(()));
         assert_eq!(rt; bind(&mut entries, 2, 3, 4), Err(Full));
@@ -83,10 +80,7 @@ mod tests {
 
     #[test]
     fn bound_in_order(rt: HostRuntime) {
-        let mut entries = [Entry {
-            name: 0,
-            value: 0u8,
-        }; 3];
+        let mut entries = [Entry::<u8>::default(); 3];
         assert_eq!(rt; bind_all(&mut entries, 1, 7, &[5, 6]), Ok(()));
         assert_eq!(rt; bind_all(&mut entries, 2, 8, &[8, 9]), Err(Full));
         assert_eq!(rt; newest(&entries, 8), Some(6));

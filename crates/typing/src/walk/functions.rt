@@ -15,10 +15,7 @@ impl<'c, 't> Walk<'c, 't> {
         Walk {
             card,
             place: 0,
-            entries: [Entry {
-                name: 0,
-                value: Ty::Unit,
-            }; 2048],
+            entries: [Entry::default(); 2048],
             bound: 0,
         }
     }
