@@ -1,13 +1,9 @@
-use Rattle.std.proofs.Common.{Ok, Err, subst, sym, ap, ◌∙◌, add-one, arith}
+use Rattle.std.proofs.Common.{Ok, Err, subst, sym, ◌∙◌, add-one, arith}
 use Rattle.std.proofs.lemmas.Result.{err_from_is_err_and}
-use Rattle.numbering.specs.declared.layout.Layout.{Layout}
 use Rattle.numbering.specs.Views.{tokens_in}
 use Rattle.typing.specs.Functions.{FunctionAt}
-use Rattle.typing.proofs.Bodies.{LeftAt, left_first, left_more, left_fault, left_none}
+use Rattle.typing.proofs.Bodies.{LeftAt, left_more, left_fault, left_none}
 use Rattle.typing.proofs.typed.Goals as goal
-
-pub loop-number-init : goal.loop-number-init
-loop-number-init c = (ap (λ (card : Layout). tokens_in card) c.over-walk.ensures, left_first (tokens_in c.args.card.now))
 
 pub returns-in_err-function : goal.returns-in_err-function
 returns-in_err-function c =

@@ -6,9 +6,6 @@ use Rattle.program.specs.Views.{tokens_in, text_in}
 use Rattle.constructs.proofs.Armed.{armed, unarmed, arm_hit, arm_miss, arm_found, next_arms}
 use Rattle.constructs.proofs.matching.arm_for.Goals as goal
 
-pub overflow_add-part : goal.overflow_add-part
-overflow_add-part c = let h = (armed c.args.program.now c.loop-arm.place c.in-Some.arm c.loop-arm.invariant.0 c.in-Some.ensures).within in omega arith
-
 pub returns-then-case-arm : goal.returns-then-case-arm
 returns-then-case-arm c =
     let k = c.args.program.now in

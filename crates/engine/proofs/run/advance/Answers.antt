@@ -1,4 +1,4 @@
-use Rattle.std.proofs.Common.{◌≡◌, ◌+◌, ◌-◌, sym, refl, ◌∙◌, arith}
+use Rattle.std.proofs.Common.{◌+◌, ◌-◌, sym, refl, ◌∙◌}
 use Rattle.frames.specs.Trees.{setup}
 use Rattle.frames.specs.Stacks.{held}
 use Rattle.frames.specs.Views.{view}
@@ -25,8 +25,3 @@ loop-preserved g c =
       most = c.step_once.ensures.most ∙ c.loop.invariant.most;
       does = turned S c.loop.counter c.args.units (view g.S.Store.cells k c.loop.run) _ c.loop-test.true e ∙ c.loop.invariant.does;
     }
-
-pub returns-clause-does : goal.returns-clause-does
-returns-clause-does g c =
-    let n : c.args.units - c.loop.counter ≡ 0 = omega arith in
-    rw n at c.loop.invariant.does

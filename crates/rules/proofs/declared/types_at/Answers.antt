@@ -1,11 +1,8 @@
 use Rattle.std.proofs.Common.{arith}
 use Rattle.few.specs.Listed.{listed}
 use Rattle.numbering.specs.Views.{tokens_in}
-use Rattle.rules.proofs.Taken.{taken_none, taken_more, taken_all, taken_short}
+use Rattle.rules.proofs.Taken.{taken_more, taken_short}
 use Rattle.rules.proofs.declared.types_at.Goals as goal
-
-pub loop-place-init : goal.loop-place-init
-loop-place-init c = taken_none (tokens_in c.args.card.now) c.args.from (listed c.new-types.result) c.new-types.ensures
 
 pub returns-in_err-type_at : goal.returns-in_err-type_at
 returns-in_err-type_at c =
@@ -15,6 +12,3 @@ returns-in_err-type_at c =
 pub loop-place-preserved : goal.loop-place-preserved
 loop-place-preserved c =
     taken_more (tokens_in c.args.card.now) c.args.from c.loop-place.place (listed c.loop-place.types) (listed c.push.new.self) _ (omega arith) c.loop-place.invariant c.in_ok-type_at.ensures c.push.ensures
-
-pub returns : goal.returns
-returns c = taken_all (tokens_in c.args.card.now) c.args.from c.args.n c.loop-place.place (listed c.loop-place.types) (omega arith) c.loop-place.invariant
