@@ -2,18 +2,18 @@
 use Rattle.std.specs.Prelude.{ℕ, List, []}
 use Rattle.battery.specs.declared.value.Value.{Value}
 use Rattle.battery.specs.Cell as rules
-use Rattle.few.specs.declared.items.Few.{Few}
-use Rattle.few.specs.Listed.{listed}
+use Rattle.few.specs.declared.items.short.Short.{Short}
+use Rattle.few.specs.Shown.{shown}
 use Rattle.cells.specs.declared.cell.Cell.{Cell}
 use Rattle.cells.specs.declared.cell.Cell.TheVariants.{Text as of_text, Enum as of_enum}
 
 -- the bytes of a text
-abbrev pub text_of : Few ℕ 24 → List ℕ
-text_of t = listed t
+abbrev pub text_of : Short ℕ 24 → List ℕ
+text_of t = shown t
 
 -- the values, in order
-abbrev pub values_of : Few Value 4 → List Value
-values_of v = listed v
+abbrev pub values_of : Short Value 4 → List Value
+values_of v = shown v
 
 abbrev pub meaning : Cell → rules.Cell
 meaning (of_text t) = rules.text_cell (text_of t)

@@ -4,13 +4,13 @@ ghost use Rattle.cells.specs.Same.{same_cell};
 ghost use Rattle.cells.specs.Means.{same_cell_laws};
 
 use battery::Value;
-use few::Few;
+use few::Short;
 
 // The bytes of a text.
-pub type Text = Few<u8, 24>;
+pub type Text = Short<u8, 24>;
 
 // The fields of an enum value, or the arguments of a function, in order.
-pub type Values = Few<Value, 4>;
+pub type Values = Short<Value, 4>;
 
 // A value of an enum: its case and fields.
 #[derive(Clone, Copy, Default)]

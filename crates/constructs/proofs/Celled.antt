@@ -8,7 +8,7 @@ use Rattle.battery.specs.Tree.{Expr, Concat, Scope, ◌▸◌}
 use Rattle.battery.specs.Cell.{Cell, text_cell, append}
 use Rattle.battery.specs.Rules.{Setup, stops, same_bytes}
 use Rattle.battery.specs.Rules.{Move as RuleMove}
-use Rattle.few.specs.declared.items.Few.{Few}
+use Rattle.few.specs.declared.items.short.Short.{Short}
 use Rattle.cells.specs.Meaning.{values_of}
 use Rattle.table.specs.declared.token.Token.TheVariants.{Expr as EXPR}
 use Rattle.table.specs.declared.token.Head.TheVariants.{Leaf as LEAF}
@@ -27,7 +27,7 @@ use Rattle.frames.proofs.Layers.{standing, head_is}
 use Rattle.machine.specs.Machine.{two, of_cell, of_text, putting, after}
 use Rattle.constructs.proofs.Moves.{bound}
 
-pub values_few : (v : Few Value 4) → length (values_of v) ≤ 4
+pub values_few : (v : Short Value 4) → length (values_of v) ≤ 4
 values_few v = let r = v.room in let w = v.whole in let l = length-take-le v.len v.items (omega arith) in omega arith
 
 -- a rule that puts a cell

@@ -1,7 +1,9 @@
 mod list;
+mod short;
 
-ghost use Rattle.std.specs.Prelude.{◌≡◌, ◌≤◌, length};
+ghost use Rattle.std.specs.Prelude.{◌≡◌, ◌≤◌, length, ⊤};
 
+pub use short::Short;
 use std::alloc::AllocError;
 
 // At most N items, in order, in the value itself: the first `len` of `items`. What lies behind
@@ -13,7 +15,12 @@ pub struct Few<T, const N: usize> {
     ghost room: { len ≤ N },
 }
 
+// A clone is the same items, and never fails.
 impl<T: Copy, const N: usize> Clone for Few<T, N> {
+    ghost is_clone = { λ few again. again ≡ few };
+
+    ghost is_infallible = { λ _. ⊤ };
+
     fn clone(&self) -> Result<Few<T, N>, AllocError> {
         Ok(*self)
     }

@@ -2,4 +2,4 @@
 
 mod items;
 
-pub use items::Few;
+pub use items::{Few, Short};
