@@ -22,6 +22,16 @@ arm_is (Some (EXPR h)) a e = never (sym e)
 pub arm_not : (o : Option Token) → None ≡ arm_in o → (n x c : ℕ) → o ≡ Some (ARM n x c) → ⊥
 arm_not o e n x c h = never (e ∙ ap arm_in h)
 
+pub head_is : (o : Option Token) (h : Head) → Some h ≡ head_of o → o ≡ Some (EXPR h)
+head_is None h e = never (sym e)
+head_is (Some CLOSE) h e = never (sym e)
+head_is (Some (ENUM k)) h e = never (sym e)
+head_is (Some (CASE n k)) h e = never (sym e)
+head_is (Some (DEF n k)) h e = never (sym e)
+head_is (Some (TYPE τ)) h e = never (sym e)
+head_is (Some (ARM n x c)) h e = never (sym e)
+head_is (Some (EXPR g)) h e = ap (λ (b : Head). Some (EXPR b)) (sym (Some≡ e))
+
 pub head_not : (o : Option Token) → None ≡ head_of o → (h : Head) → o ≡ Some (EXPR h) → ⊥
 head_not o e h q = never (e ∙ ap head_of q)
 
