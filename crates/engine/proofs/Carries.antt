@@ -1,5 +1,5 @@
 -- One round of the newest frame, on lists.
-use Rattle.std.proofs.Common.{◌≡◌, ℕ, zero, suc, ◌-◌, ◌<◌, ◌≤◌, Bool, true, false, cond, leb, List, [], ◌∷◌, length, drop, Some, None, Option, sym, refl, ap, ◌∙◌, subst, arith, length-append}
+use Rattle.std.proofs.Common.{◌≡◌, ℕ, zero, suc, ◌-◌, ◌<◌, ◌≤◌, Bool, true, false, cond, leb, List, [], ◌∷◌, length, drop, Some, None, Option, sym, refl, ap, ◌∙◌, subst, arith, length-append, length-drop}
 use Rattle.std.proofs.lemmas.List.{drop-drop}
 use borrow.Author.Tests.{leb-false}
 use Rattle.battery.specs.declared.value.Value.{Value}
@@ -27,8 +27,9 @@ use Rattle.frames.specs.declared.data.Stage.TheVariants.{Going, Ended}
 use Rattle.frames.specs.declared.data.Part.TheVariants.{Next, Whole, Equal}
 use Rattle.frames.specs.Trees.{Starts, setup}
 use Rattle.frames.specs.Stacks.{held, vals, outcome, below, Took, waiting_in}
-use Rattle.frames.specs.Views.{Rounded, judgement, judged_for, paired, pairs_of, handed, Handed, frames, stage, carry, stepped, part_job, next_of, pair_of, past, job_or, pair_or, part_of, parted, JobOk, WaitOk, Ok, Carries, JudgementOk, StageOk, move, LeadsTo, Did, Ready, arrival}
+use Rattle.frames.specs.Views.{Rounded, judgement, judged_for, paired, pairs_of, Within, handed, Handed, frames, stage, carry, stepped, part_job, next_of, pair_of, past, job_or, pair_or, part_of, parted, JobOk, WaitOk, Ok, Carries, JudgementOk, StageOk, move, LeadsTo, Did, Ready, arrival}
 use Rattle.frames.proofs.Layers.{within, firsts_of_lem}
+use Rattle.constructs.proofs.Celled.{values_few}
 use Rattle.engine.proofs.Levels.{length_newest, ok_weaken, frames_agree}
 
 -- the pairs behind the first
@@ -42,6 +43,17 @@ pairs_behind q p ps e =
     let a = drop-drop 1 q.next (values_of q.ones) in
     let b = drop-drop 1 q.next (values_of q.others) in
     rw (← a, ← b) (behind_pair (drop q.next (values_of q.ones)) (drop q.next (values_of q.others)) p ps e)
+
+-- behind a pair, the next one is still within
+some_there : (xs ys : List Value) (p : Value × Value) (ps : List (Value × Value)) → pairs xs ys ≡ p ∷ ps → 0 < length xs
+some_there [] ys p ps e = absurd (cc)
+some_there (x ∷ xs) ys p ps e = omega arith
+
+within_behind : (q : Pairs) (p : Value × Value) (ps : List (Value × Value)) → pairs_of q ≡ p ∷ ps → Within (paired q)
+within_behind q p ps e =
+    let s = some_there (drop q.next (values_of q.ones)) (drop q.next (values_of q.others)) p ps e in
+    let l = length-drop q.next (values_of q.ones) in
+    let few = values_few q.ones in omega arith
 
 module _ (k : Program) where
   -- the record that a judgement is opened for
@@ -83,7 +95,7 @@ module _ (k : Program) where
     pair_by q h (x ∷ ps) e o p =
         let i : j ≡ Same (record { at = q.at; one = x.0; other = x.1 }) = cc in
         let b = pairs_behind q x ps e in
-        let a = arrives es (Compares (paired q) ∷ l) u most cs (Same (record { at = q.at; one = x.0; other = x.1 })) (h, o) in
+        let a = arrives es (Compares (paired q) ∷ l) u most cs (Same (record { at = q.at; one = x.0; other = x.1 })) (h, (within_behind q x ps e, o)) in
         rw i (a.0 ∙ rw (b, e), a.1)
 
   next_part : (es : List (Entry Value)) (l : List Frame) (u most : ℕ) (cs : List Cell) (j : Judgement) → Carries k l → Some (Next j) ≡ part_of l
@@ -91,7 +103,7 @@ module _ (k : Program) where
   next_part es [] u most cs j o e = absurd (cc)
   next_part es (Passes ∷ l) u most cs j o e = absurd (cc)
   next_part es (Waits w ∷ l) u most cs j o e = job_by es l u most cs j w w.left refl o.0 o.1 e
-  next_part es (Compares q ∷ l) u most cs j o e = pair_by es l u most cs j q o.0 (pairs_of q) refl o.1 e
+  next_part es (Compares q ∷ l) u most cs j o e = pair_by es l u most cs j q o.1.0 (pairs_of q) refl o.1.1 e
 
   pub next_done : (es : List (Entry Value)) (l l' : List Frame) (u most : ℕ) (cs : List Cell) (j : Judgement) (s : Stage) → Carries k l → Some (Next j) ≡ part_of l → l' ≡ parted k l → s ≡ arrival u j
       → (stage k es l' u cs s ≡ carry k (setup k most) es l u cs) × StageOk k l' u s
@@ -204,7 +216,7 @@ module _ (k : Program) where
   equal (Compares q ∷ l) o e =
       let x = equal_by l q (pairs_of q) refl e in
       let n = x.1 in
-      record { same = x.0; height = o.0; rest = o.1; long = refl; does = λ es u most cs. rw n }
+      record { same = x.0; height = o.1.0; rest = o.1.1; long = refl; does = λ es u most cs. rw n }
 
   -- what giving a value comes to
   pub record Handing (es : List (Entry Value)) (l l' : List Frame) (u most : ℕ) (cs : List Cell) (v : Value) (r : Given) : Type 0 where
@@ -217,9 +229,9 @@ module _ (k : Program) where
   longer f e h = let s = h.short in record { does = e; carries = h.carries; short = omega arith }
 
   module _ (es : List (Entry Value)) (u most : ℕ) (cs : List Cell) where
-    compares_on : (l l' : List Frame) (q : Pairs) (h : ℕ) (v : Value) (r : Given) → Ok k l h → l' ≡ Compares q ∷ l
+    compares_on : (l l' : List Frame) (q : Pairs) (h : ℕ) (v : Value) (r : Given) → Ok k (Compares q ∷ l) h → l' ≡ Compares q ∷ l
         → handed k (setup k most) es (Compares q ∷ l) v u cs r ≡ resume (setup k most) (frames k es (Compares q ∷ l)) v u cs → Handing es (Compares q ∷ l) l' u most cs v r
-    compares_on l l' q h v r o t e = rw t (record { does = e; carries = (h, o); short = omega arith })
+    compares_on l l' q h v r o t e = rw t (record { does = e; carries = (o.0, (h, o.1)); short = omega arith })
 
     handing : (l l' : List Frame) (h : ℕ) (v : Value) → Ok k l h → Took l v l' → Handing es l l' u most cs v (outcome l v)
     handing [] l' h v o t = rw t (record { does = refl; carries = tt; short = omega arith })
@@ -238,7 +250,7 @@ module _ (k : Program) where
     handing (Compares q ∷ l) l' h unit_v o t = compares_on l l' q h unit_v _ o (t.2 ∙ ap (λ f. f ∷ l) t.1) refl
     handing (Compares q ∷ l) l' h (number_v n) o t = compares_on l l' q h (number_v n) _ o (t.2 ∙ ap (λ f. f ∷ l) t.1) refl
     handing (Compares q ∷ l) l' h (boolean_v true) o t = compares_on l l' q h (boolean_v true) _ o (t.2 ∙ ap (λ f. f ∷ l) t.1) refl
-    handing (Compares q ∷ l) l' h (boolean_v false) o t = let n = handing l l' h (boolean_v false) o t in longer (Compares q) n.does n
+    handing (Compares q ∷ l) l' h (boolean_v false) o t = let n = handing l l' h (boolean_v false) o.1 t in longer (Compares q) n.does n
     handing (Compares q ∷ l) l' h (place_v i) o t = compares_on l l' q h (place_v i) _ o (t.2 ∙ ap (λ f. f ∷ l) t.1) refl
 
     pub handing_of : (l l' : List Frame) (h : ℕ) (v : Value) (r : Given) → Ok k l h → r ≡ outcome l v → Took l v l' → Handing es l l' u most cs v r

@@ -33,13 +33,13 @@ module _ (k : Program) where
   ok_weaken [] h h' le o = tt
   ok_weaken (Passes ∷ l) h h' le o = ok_weaken l h h' le o
   ok_weaken (Waits w ∷ l) h h' le o = let q = o.2 in (o.0, o.1, omega arith, o.3)
-  ok_weaken (Compares q ∷ l) h h' le o = ok_weaken l h h' le o
+  ok_weaken (Compares q ∷ l) h h' le o = (o.0, ok_weaken l h h' le o.1)
 
   pub ok_room : (l : List Frame) (h : ℕ) → Ok k l h → Room l
   ok_room [] h o = tt
   ok_room (Passes ∷ l) h o = (tt, ok_room l h o)
   ok_room (Waits w ∷ l) h o = let q = o.1 in (omega arith, ok_room l w.job.height o.3)
-  ok_room (Compares q ∷ l) h o = (tt, ok_room l h o)
+  ok_room (Compares q ∷ l) h o = (tt, ok_room l h o.1)
 
   pub frames_agree : (es es' : List (Entry Value)) (l : List Frame) (h : ℕ) → Ok k l h → Agree es es' h → frames k es' l ≡ frames k es l
   frames_agree es es' [] h o a = refl
@@ -49,4 +49,4 @@ module _ (k : Program) where
       let s = scope_agree es es' w.job h o.0.job.based q a in
       let r = frames_agree es es' l w.job.height o.3 (agree_less es es' w.job.height h q a) in
       rw (s, r)
-  frames_agree es es' (Compares q ∷ l) h o a = ap (λ K. compares q.at (pairs_of q) ∷ K) (frames_agree es es' l h o a)
+  frames_agree es es' (Compares q ∷ l) h o a = ap (λ K. compares q.at (pairs_of q) ∷ K) (frames_agree es es' l h o.1 a)

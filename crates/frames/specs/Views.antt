@@ -56,6 +56,10 @@ judged_for (Same p) = p.at
 abbrev pub pairs_of : Pairs → List (Value × Value)
 pairs_of q = pairs (drop q.next (values_of q.ones)) (drop q.next (values_of q.others))
 
+-- the next pair is within the four values, or behind the last
+abbrev pub Within : Pairs → Type 0
+Within q = q.next ≤ 4
+
 abbrev pub frame : Program → List (Entry Value) → Frame → TreeFrame
 frame k es Passes = passes
 frame k es (Waits w) = waits (scope es w.job) (expr k w.job.at) (vals w) (exprs k w.left w.next)
@@ -160,14 +164,14 @@ abbrev pub Ok : Program → List Frame → ℕ → Type 0
 Ok k [] h = Unit {0}
 Ok k (Passes ∷ l) h = Ok k l h
 Ok k (Waits w ∷ l) h = WaitOk k (length l) w × (length (vals w) < 4 - w.left) × (w.job.height ≤ h) × Ok k l w.job.height
-Ok k (Compares q ∷ l) h = Ok k l h
+Ok k (Compares q ∷ l) h = Within q × Ok k l h
 
 -- the newest has its values so far
 abbrev pub Carries : Program → List Frame → Type 0
 Carries k [] = Unit {0}
 Carries k (Passes ∷ l) = Unit {0}
 Carries k (Waits w ∷ l) = WaitOk k (length l) w × Ok k l w.job.height
-Carries k (Compares q ∷ l) = (h : ℕ) × Ok k l h
+Carries k (Compares q ∷ l) = Within q × ((h : ℕ) × Ok k l h)
 
 -- a judgement that may be opened above the frames
 abbrev pub JudgementOk : Program → List Frame → Judgement → Type 0
@@ -239,7 +243,7 @@ verdict (Some (Fields q)) = Some (fields (pairs_of q))
 abbrev pub VerdictOk : ℕ → Option Verdict → Type 0
 VerdictOk p None = Unit {0}
 VerdictOk p (Some (Is b)) = Unit {0}
-VerdictOk p (Some (Fields q)) = q.at ≡ p
+VerdictOk p (Some (Fields q)) = (q.at ≡ p) × Within q
 
 -- the frame w of a judgement that is opened
 pub record Opening (k : Program) (j : Job) (w : Wait) : Type 0 where
