@@ -16,14 +16,15 @@ use program::Program;
 use stores::Store;
 use table::{Head, Pair};
 
-// A judgement is to be opened, unless all units are spent.
-fn arrive(units: u32, judgement: Judgement) -> Stage
-    ensures { result ≡ arrival units judgement }
+// A judgement is to be opened, unless all units are spent. The stage is written where it lies: one
+// that is handed over was written byte by byte.
+fn arrive(stage: &mut Stage, units: u32, judgement: Judgement)
+    ensures { stage.new ≡ arrival units judgement }
 {
     if units >= 1_000_000 {
-        Stage::Ended(Err(Stop::Overrun(judgement.at())))
+        *stage = Stage::Ended(Err(Stop::Overrun(judgement.at())));
     } else {
-        Stage::Going(judgement)
+        *stage = Stage::Going(judgement);
     }
 }
 
@@ -66,7 +67,7 @@ fn round<S: Store>(program: &Program, run: &mut Run<S>) -> bool
 {
     match run.stack.part(program) {
         Some(Part::Next(judgement)) => {
-            run.stage = arrive(run.units, judgement);
+            arrive(&mut run.stage, run.units, judgement);
             false
         }
         Some(Part::Whole(at)) => match apply(program, run) {
@@ -80,7 +81,7 @@ fn round<S: Store>(program: &Program, run: &mut Run<S>) -> bool
             }
             Some(Move::Goes(judgement)) => {
                 run.stack.pass();
-                run.stage = arrive(run.units, judgement);
+                arrive(&mut run.stage, run.units, judgement);
                 false
             }
             None => {

@@ -9,7 +9,7 @@ use Rattle.engine.proofs.run.round.Goals as goal
 pub returns-in-Some-Next-clause-does : goal.returns-in-Some-Next-clause-does
 returns-in-Some-Next-clause-does g c =
     let e = rw c.in-Some-Next.field-0-is at c.in-Some-Next.ensures.told in
-    next_done c.args.program.now c.args.run.now.entries (held c.args.run.now.stack) (held c.part.new.self) c.args.run.now.units (g.S.Store.limit c.args.run.now.store) (g.S.Store.cells c.args.run.now.store) c.in-Some-Next.judgement c.arrive-run.result c.requires e c.part.ensures.list c.arrive-run.ensures
+    next_done c.args.program.now c.args.run.now.entries (held c.args.run.now.stack) (held c.part.new.self) c.args.run.now.units (g.S.Store.limit c.args.run.now.store) (g.S.Store.cells c.args.run.now.store) c.in-Some-Next.judgement c.arrive.new.stage c.requires e c.part.ensures.list c.arrive.ensures
 
 pub apply-requires : goal.apply-requires
 apply-requires g c =
@@ -38,8 +38,8 @@ returns-in-Some-Goes-clause-does g c =
     let f = whole c.args.program.now (held c.args.run.now.stack) c.in-Some-Whole.at c.requires (rw c.in-Some-Whole.field-0-is at c.in-Some-Whole.ensures.told) in
     let p = c.pass.ensures ∙ ap (λ x. Passes ∷ below x) (ap held c.apply.ensures.frames ∙ c.part.ensures.list ∙ f.frame.same) in
     let u = c.apply.ensures.units in
-    let a = rw (c.in-Some-Goes.judgement-is, u) at c.arrive-run-in-Some-Goes.ensures in
-    rw u (rule_goes c.args.program.now c.args.run.now.entries c.apply.new.run.entries (held c.args.run.now.stack) f.wait c.args.run.now.units (g.S.Store.limit c.args.run.now.store) (g.S.Store.cells c.args.run.now.store) (g.S.Store.cells c.apply.new.run.store) f.frame (held c.pass.new.self) c.in-Some-Goes.judgement c.arrive-run-in-Some-Goes.result (rw c.in-Some-Goes.field-0-is at (c.in-Some-Goes.ensures.does f.wait (waits_there c.args.program.now (held c.args.run.now.stack) (held c.part.new.self) f.wait f.frame c.part.ensures.list))) p a)
+    let a = rw (c.in-Some-Goes.judgement-is, u) at c.arrive-in-Some-Goes.ensures in
+    rw u (rule_goes c.args.program.now c.args.run.now.entries c.apply.new.run.entries (held c.args.run.now.stack) f.wait c.args.run.now.units (g.S.Store.limit c.args.run.now.store) (g.S.Store.cells c.args.run.now.store) (g.S.Store.cells c.apply.new.run.store) f.frame (held c.pass.new.self) c.in-Some-Goes.judgement c.arrive-in-Some-Goes.new.stage (rw c.in-Some-Goes.field-0-is at (c.in-Some-Goes.ensures.does f.wait (waits_there c.args.program.now (held c.args.run.now.stack) (held c.part.new.self) f.wait f.frame c.part.ensures.list))) p a)
 
 pub returns-in-None-apply-clause-does : goal.returns-in-None-apply-clause-does
 returns-in-None-apply-clause-does g c =
