@@ -28,8 +28,8 @@ pub enum Judgement {
 }
 
 // An open judgement that waits for its first parts: the next part's place, the values so far, and
-// how many are left. In this order no gap lies before the values, so that a frame is written in
-// whole words: with one, a judgement took up to a third longer.
+// how many are left. In this order no gap lies before the values: with one, a frame was written in
+// pieces and read again in whole words, which the processor waits for.
 #[derive(Clone, Copy)]
 pub struct Wait {
     pub job: Job,
